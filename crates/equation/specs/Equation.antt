@@ -1,5 +1,5 @@
 -- What is asked of the F of a response equation R = F(R): that it never falls and has a lowest start (`Equation`), and that it looks at
--- the time only through counts (`Steps`), whose `renewals` limit the rounds. Assumes nothing.
+-- the time only through counts (`Steps`), whose `renewals` limit the rounds (`most-rounds`). Assumes nothing.
 use mathlib.Core.Path.{_≡_}
 use mathlib.Core.List.{List, [], _∷_, List·Memᴰ}
 use Prim.Native.Nat.{ℕ, _+_, _-_, _≤_}
@@ -24,3 +24,7 @@ pub record Steps (F : ℕ → ℕ) (cs : List (ℕ → ℕ)) : Type 0 where
 unfoldable pub renewals : ℕ → List (ℕ → ℕ) → ℕ
 renewals t [] = 0
 renewals t (c ∷ cs) = (c t - 1) + renewals t cs
+
+-- the limit on the rounds up to D
+abbrev pub most-rounds : ℕ → List (ℕ → ℕ) → ℕ
+most-rounds D cs = 2 + renewals D cs

@@ -1,7 +1,7 @@
 -- The starts that are not refused (`Allowed`), and what `judge` gives from one (`FromStart`). Assumes nothing.
 use mathlib.Core.List.{List}
-use Prim.Native.Nat.{ℕ, _+_, _≤_, max}
-use Rattle.equation.specs.Equation.{renewals}
+use Prim.Native.Nat.{ℕ, _≤_, max}
+use Rattle.equation.specs.Equation.{most-rounds}
 use Rattle.equation.specs.Verdict.{Right}
 use Rattle.equation.specs.Rounds.{Course, judge}
 
@@ -15,4 +15,4 @@ pub record Allowed (F : ℕ → ℕ) (L D start : ℕ) : Type 0 where
 pub record FromStart (F : ℕ → ℕ) (L D : ℕ) (cs : List (ℕ → ℕ)) (start : ℕ) : Type 0 where
   pub right : Right F (max L start) D (judge F L D start .verdict)
   pub course : Course F D (max L start) (judge F L D start .verdict) (judge F L D start .rounds)
-  pub limit : judge F L D start .rounds ≤ 2 + renewals D cs
+  pub limit : judge F L D start .rounds ≤ most-rounds D cs
