@@ -1,0 +1,25 @@
+-- An older verdict: the start that it gives (`carried`), which of two verdicts is no later (`≼`), and what point 3 says of the
+-- rounds from the carried start (`Carries`). Assumes nothing.
+use mathlib.Core.List.{List}
+use Prim.Native.Nat.{ℕ, _≤_}
+use Rattle.equation.specs.Verdict.{Verdict, holds, misses, Right}
+use Rattle.equation.specs.Rounds.{judge}
+use Rattle.equation.specs.Start.{Allowed, FromStart}
+
+-- its bound, or 0 where it missed
+abbrev pub carried : Verdict → ℕ
+carried (holds R) = R
+carried misses = 0
+
+-- no later: a smaller bound, or whatever against a miss
+infix 4 _≼_
+pub data _≼_ : Verdict → Verdict → Type 0 where
+  sooner : {R R′ : ℕ} → R ≤ R′ → holds R ≼ holds R′
+  missed : {v : Verdict} → v ≼ misses
+
+-- A start that is not refused, from which the verdict is that of point 2, in no more rounds than from a fresh start.
+pub record Carries (F : ℕ → ℕ) (L D : ℕ) (cs : List (ℕ → ℕ)) (start : ℕ) : Type 0 where
+  pub allowed : Allowed F L D start
+  pub judged : FromStart F L D cs start
+  pub right : Right F 1 D (judge F L D start .verdict)
+  pub no-more : judge F L D start .rounds ≤ judge F L D 0 .rounds
