@@ -1,5 +1,5 @@
 -- To unfold `every-rule` is to unfold every rule, so that figures compute. Assumes nothing.
-use Rattle.equation.specs.Response as rounds
+use Rattle.equation.specs.Rounds as rounds
 use Rattle.rules.specs.Idioms.{from, number, bytes}
 use Rattle.rules.specs.Timing.{ranges, ddr3-1333}
 use Rattle.rules.specs.Units.{inTime}

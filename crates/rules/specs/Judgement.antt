@@ -1,7 +1,8 @@
 -- "Rounds", the bound, and the judgement of a task from a start. The rounds are those of the crate `equation`, where their theory
 -- is; here they get the table's F, and the deciding delay is laid over the bound. Assumes nothing.
 use Prim.Native.Nat.{ℕ, max}
-use Rattle.equation.specs.Response as rounds
+use Rattle.equation.specs.Verdict as outcome
+use Rattle.equation.specs.Rounds as rounds
 use Rattle.rules.specs.declared.Table.{Table}
 use Rattle.rules.specs.declared.Delay.{Delay}
 use Rattle.rules.specs.declared.Verdict.{Verdict}
@@ -15,9 +16,9 @@ abbrev pub misses : ℕ → Answer
 misses n = record { verdict = Misses; rounds = n }
 
 -- "A task's answer holds, with its bound and which of the two delays decided, or misses."
-abbrev pub withDelay : (ℕ → Delay) → rounds.Verdict → Verdict
-withDelay by (rounds.holds r) = Holds (ps r) (by r)
-withDelay by rounds.misses = Misses
+abbrev pub withDelay : (ℕ → Delay) → outcome.Verdict → Verdict
+withDelay by (outcome.holds r) = Holds (ps r) (by r)
+withDelay by outcome.misses = Misses
 
 -- the lowest start: C. Every start that the rounds use is at least this
 unfoldable pub lowest : Table → ℕ → ℕ
