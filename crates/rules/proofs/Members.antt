@@ -1,7 +1,7 @@
 -- What is known of each member of a list that a rule makes. Assumes nothing.
 use mathlib.Core.Path.{_≡_, refl}
 use mathlib.Core.Bool.{Bool, true, false, cond}
-use mathlib.Core.List.{List, [], _∷_, List·Memᴰ, List·Memᴰ·head, List·Memᴰ·tail, List·Memᴰ·not-nil}
+use mathlib.Core.List.{List, [], _∷_, map, List·Memᴰ, List·Memᴰ·head, List·Memᴰ·tail, List·Memᴰ·not-nil}
 use Prim.Native.Nat.{ℕ, zero, suc, _+_, _≤_, _<_, zero-le, suc-le-suc}
 use native.Mathlib.Omega.{arith}
 use lib.ListN.{take, getD}
@@ -37,3 +37,16 @@ member-from a (suc n) (List·Memᴰ·tail m) = let rest = member-from (a + 1) n 
 
 pub member-upTo : (n : ℕ) {q : ℕ} → List·Memᴰ q (upTo n) → (1 ≤ q) × (q ≤ n)
 member-upTo n m = let inside = member-from 1 n m in omega arith
+
+-- ---- what agrees for every member makes the same list
+
+module _ {A : Type 0} where
+  pub those-same : (p q : A → Bool) (l : List A) → ((x : A) → List·Memᴰ x l → p x ≡ q x) → those p l ≡ those q l
+  those-same p q [] same = refl
+  those-same p q (x ∷ xs) same =
+      rw (same x (List·Memᴰ·head refl), those-same p q xs (λ y m. same y (List·Memᴰ·tail m)))
+
+  pub map-same : {B : Type 0} (f g : A → B) (l : List A) → ((x : A) → List·Memᴰ x l → f x ≡ g x) → map f l ≡ map g l
+  map-same f g [] same = refl
+  map-same f g (x ∷ xs) same =
+      rw (same x (List·Memᴰ·head refl), map-same f g xs (λ y m. same y (List·Memᴰ·tail m)))
