@@ -4,6 +4,7 @@ use mathlib.Core.Bool.{Bool, true, false, cond}
 use mathlib.Core.List.{List, [], _∷_, map, List·Memᴰ, List·Memᴰ·head, List·Memᴰ·tail, List·Memᴰ·not-nil}
 use Prim.Native.Nat.{ℕ, zero, suc, _+_, _≤_, _<_, zero-le, suc-le-suc}
 use native.Mathlib.Omega.{arith}
+use native.Mathlib.Decide.{ℕ-discrete}
 use lib.ListN.{take, getD}
 use Rattle.rules.specs.Idioms.{those, from, upTo}
 
@@ -37,6 +38,18 @@ member-from a (suc n) (List·Memᴰ·tail m) = let rest = member-from (a + 1) n 
 
 pub member-upTo : (n : ℕ) {q : ℕ} → List·Memᴰ q (upTo n) → (1 ≤ q) × (q ≤ n)
 member-upTo n m = let inside = member-from 1 n m in omega arith
+
+from-has : (a n k : ℕ) → a ≤ k → k < a + n → List·Memᴰ k (from a n)
+unfolding from
+from-has a zero k low high = absurd (omega arith)
+from-has a (suc n) k low high = go (ℕ-discrete k a) (λ l. from-has (a + 1) n k l (omega arith))
+  where
+    go : Dec (k ≡ a) → (a + 1 ≤ k → List·Memᴰ k (from (a + 1) n)) → List·Memᴰ k (a ∷ from (a + 1) n)
+    go (yes same) rest = List·Memᴰ·head same
+    go (no other) rest = List·Memᴰ·tail (rest (omega (arith, other)))
+
+pub upTo-has : (n k : ℕ) → 1 ≤ k → k ≤ n → List·Memᴰ k (upTo n)
+upTo-has n k low high = from-has 1 n k low (omega arith)
 
 -- ---- what agrees for every member makes the same list
 
