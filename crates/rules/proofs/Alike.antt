@@ -1,10 +1,8 @@
 -- Boards that are alike in their used places delay a request alike, and a job alike for each request. Assumes nothing.
 use mathlib.Core.Path.{_≡_, refl, sym, ap, _∙_}
-use mathlib.Core.Bool.{Bool}
-use mathlib.Core.List.{List, map, List·Memᴰ}
-use Prim.Native.Nat.{ℕ, _+_, _*_, _≤_}
+use mathlib.Core.List.{map, List·Memᴰ}
+use Prim.Native.Nat.{ℕ, _+_, _≤_}
 use Rattle.rules.specs.declared.Table.{Table}
-use Rattle.rules.specs.declared.Picos.{Picos}
 use Rattle.rules.specs.Idioms.{sumOver, from, upTo, entry}
 use Rattle.rules.specs.Timing.{Row}
 use Rattle.rules.specs.Units.{inTime, _⊕_}

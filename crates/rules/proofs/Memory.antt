@@ -1,9 +1,8 @@
 -- The response equation over any steady memory: it never falls, steps only where a count does, and is not lower where the tasks and
 -- the memory are worse. Assumes nothing.
 use mathlib.Core.Path.{_≡_, sym, subst}
-use mathlib.Core.Logic.{_⊎_, inl, inr}
-use mathlib.Core.List.{List, _++_, map, List·Memᴰ, List·Memᴰ·append-cases, Memᴰ·append-left, Memᴰ·append-right, Memᴰ·map, Memᴰ·of-map}
-use Prim.Native.Nat.{ℕ, _+_, _*_, _≤_, min}
+use mathlib.Core.List.{List, _++_, map, List·Memᴰ, Memᴰ·append-left, Memᴰ·append-right, Memᴰ·map, Memᴰ·of-map}
+use Prim.Native.Nat.{ℕ, _+_, _*_, _≤_}
 use native.Mathlib.Omega.{arith}
 use native.Mathlib.Nat.{le-refl, le-of-eq, le-antisymm, mul-le-mul}
 use Rattle.equation.specs.Equation.{Equation, Count, Steps}
@@ -35,10 +34,6 @@ module _ {t u : ℕ} {hp hp′ : List Task} (less : Paired (NoMore t u) hp hp′
 
 -- ---- in time
 
--- the counts of the tasks that the equation looks at: of the higher tasks and of those elsewhere
-abbrev pub countsOf : List Task → List Task → List (ℕ → ℕ)
-countsOf hp elsewhere = map releases (hp ++ elsewhere)
-
 module _ (m : Memory) (i : Task) (hp elsewhere : List Task) (steady : Steady m elsewhere) where
   -- a task with itself, at a later time or at one with the same count
   response-later : (t u : ℕ) → ((j : Task) → List·Memᴰ j hp → releases j t ≤ releases j u) → m .perJob t ≤ m .perJob u
@@ -56,15 +51,15 @@ module _ (m : Memory) (i : Task) (hp elsewhere : List Task) (steady : Steady m e
     some = some;
   }
 
-  pub response-steps : ((j : Task) → List·Memᴰ j (hp ++ elsewhere) → 1 ≤ T j) → Steps (response m i hp) (countsOf hp elsewhere)
+  pub response-steps : ((j : Task) → List·Memᴰ j (hp ++ elsewhere) → 1 ≤ T j) → Steps (response m i hp) (map releases (hp ++ elsewhere))
   response-steps periods = record { counts = counts; steps = steps }
     where
-      counts : (c : ℕ → ℕ) → List·Memᴰ c (countsOf hp elsewhere) → Count c
+      counts : (c : ℕ → ℕ) → List·Memᴰ c (map releases (hp ++ elsewhere)) → Count c
       counts c mem =
           let (j, at, same) = Memᴰ·of-map releases (hp ++ elsewhere) mem in
           subst Count same (releases-count j (periods j at))
 
-      steps : (t u : ℕ) → ((c : ℕ → ℕ) → List·Memᴰ c (countsOf hp elsewhere) → c t ≡ c u) → response m i hp t ≡ response m i hp u
+      steps : (t u : ℕ) → ((c : ℕ → ℕ) → List·Memᴰ c (map releases (hp ++ elsewhere)) → c t ≡ c u) → response m i hp t ≡ response m i hp u
       steps t u same =
           le-antisymm
           (response-later t u (λ j mem. le-of-eq (own j mem)) (le-of-eq late))

@@ -1,7 +1,7 @@
 -- With a table worsened no response equation is lower. Assumes nothing.
-use mathlib.Core.Path.{_≡_, ap, sym, _∙_}
+use mathlib.Core.Path.{_≡_, ap, _∙_}
 use mathlib.Core.Bool.{not}
-use Prim.Native.Nat.{ℕ, suc, _-_, _≤_, _^_}
+use Prim.Native.Nat.{ℕ, suc, _-_, _≤_}
 use native.Mathlib.Omega.{arith}
 use native.Mathlib.Nat.{le-of-eq, le-trans}
 use lib.ListN.{take}
@@ -19,7 +19,7 @@ use Rattle.rules.proofs.Releases.{releases-shorter}
 use Rattle.rules.proofs.Paired.{Paired, paired-take, paired-map, paired-those}
 use Rattle.rules.proofs.Memory.{response-worse}
 use Rattle.rules.proofs.Weights.{weight}
-use Rattle.rules.proofs.Dram.{NoDearer, JD-no-more}
+use Rattle.rules.proofs.Dram.{JD-no-more}
 use Rattle.rules.proofs.Alike.{same-RD, same-weight}
 
 -- an older and a newer task of one number

@@ -1,10 +1,10 @@
 -- Two lists whose members stand in a relation, place by place. Assumes nothing.
-use mathlib.Core.Path.{_≡_, refl, ap}
+use mathlib.Core.Path.{_≡_, refl}
 use mathlib.Core.Bool.{Bool, true, false, cond}
 use mathlib.Core.List.{List, [], _∷_, List·Memᴰ, List·Memᴰ·head, List·Memᴰ·tail}
 use Prim.Native.Nat.{ℕ, zero, suc, _≤_, _<_, zero-le, suc-le-suc}
 use native.Mathlib.Omega.{arith}
-use native.Mathlib.Nat.{le-of-suc-le-suc, le-refl}
+use native.Mathlib.Nat.{le-of-suc-le-suc}
 use lib.ListN.{length, take, getD}
 use Rattle.rules.specs.Idioms.{sumOver, those}
 

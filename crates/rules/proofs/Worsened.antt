@@ -1,18 +1,9 @@
 -- A table worsened: what the test says, and that no response equation is lower. Assumes nothing.
-use mathlib.Core.Path.{_≡_, ap}
-use mathlib.Core.Bool.{Bool, true, not}
-use mathlib.Core.List.{List}
-use Prim.Native.Nat.{ℕ, suc, _-_, _≤_, _<_}
-use native.Mathlib.Omega.{arith}
-use native.Mathlib.Nat.{le-of-eq}
-use lib.Dec.{leb, eqb}
-use lib.ListN.{take}
+use mathlib.Core.Path.{_≡_}
+use mathlib.Core.Bool.{true}
 use borrow.Author.Tests.{leb-true, eqb-true}
 use Rattle.rules.specs.declared.Task.{Task}
 use Rattle.rules.specs.declared.Table.{Table}
-use Rattle.rules.specs.Idioms.{every, upTo, entry}
-use Rattle.rules.specs.Tasks.{C, T, D, H, latest, noTask, tasksOf, taskOf, coreOf, isOn, higher, elsewhere}
-use Rattle.rules.specs.Cores.{setOf}
 use Rattle.rules.specs.Order.{sameBoard, worseTask, worsens}
 use Rattle.rules.specs.Worsened.{Alike, Raised, Worsened}
 use Rattle.rules.proofs.Members.{upTo-has}
