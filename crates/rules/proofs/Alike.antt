@@ -52,6 +52,11 @@ module _ (a b : Table) (alike : Alike a b) where
   same-reopen = of-row (λ w. inTime w (reopen w)) (λ w. refl)
 
   -- ---- near and far
+
+  near-within : (p q : ℕ) → List·Memᴰ q (near a p) → (1 ≤ q) × (q ≤ a .cores)
+  unfolding near
+  near-within p q m = member-upTo (a .cores) (member-those (isNear a p) (upTo (a .cores)) m .0)
+
   module _ (p : ℕ) (low : 1 ≤ p) (high : p ≤ a .cores) where
     same-isNear : (q : ℕ) → 1 ≤ q → q ≤ a .cores → isNear a p q ≡ isNear b p q
     same-isNear q l h = rw (alike .set p low high, alike .set q l h)
@@ -75,15 +80,11 @@ module _ (a b : Table) (alike : Alike a b) where
     unfolding inter
     same-inter = rw (same-far, same-crossing)
 
-    near-within : (q : ℕ) → List·Memᴰ q (near a p) → (1 ≤ q) × (q ≤ a .cores)
-    unfolding near
-    near-within q m = member-upTo (a .cores) (member-those (isNear a p) (upTo (a .cores)) m .0)
-
   module _ (p : ℕ) (low : 1 ≤ p) (high : p ≤ a .cores) where
     -- equal for each core near p, equal in sum
     sum-near : (f g : ℕ → ℕ) → ((q : ℕ) → 1 ≤ q → q ≤ a .cores → f q ≡ g q) → sumOver (near a p) f ≡ sumOver (near b p) g
     sum-near f g same =
-        sum-same f g (near a p) (λ q m. let h = near-within p low high q m in same q (h .0) (h .1))
+        sum-same f g (near a p) (λ q m. let h = near-within p q m in same q (h .0) (h .1))
         ∙ rw (same-near p low high)
 
     same-intra : intra a p ≡ intra b p

@@ -11,18 +11,21 @@ use Rattle.rules.specs.declared.Table.{Table}
 use Rattle.rules.specs.Idioms.{sumOver}
 use Rattle.rules.specs.Tasks.{T, releases, latest, taskOf, coreOf, higher, elsewhere}
 use Rattle.rules.specs.Board.{memoryOf}
+use Rattle.rules.specs.Steady.{Slower}
 use Rattle.rules.specs.Response.{F}
 use Rattle.rules.specs.Judgement.{lowest}
 use Rattle.rules.specs.Others.{others, countsOf, roundLimit}
 use Rattle.rules.specs.Order.{worsens}
 use Rattle.rules.specs.Refusals.{isAccepted, checkTable}
 use Rattle.rules.specs.Sound.{SoundTask}
+use Rattle.rules.specs.Worsened.{Worsened}
 use Rattle.rules.proofs.Accepted.{sound}
 use Rattle.rules.proofs.SoundTasks.{sound-higher, sound-elsewhere}
-use Rattle.rules.proofs.Memory.{response-equation, response-steps}
-use Rattle.rules.proofs.Dram.{dram-steady}
+use Rattle.rules.proofs.Paired.{paired-map}
+use Rattle.rules.proofs.Kept.{Kept, kept-no-more, kept, kept-higher}
+use Rattle.rules.proofs.Memory.{response-equation, response-steps, response-worse}
+use Rattle.rules.proofs.Dram.{dram-steady, dram-slower}
 use Rattle.rules.proofs.Worsened.{worsened}
-use Rattle.rules.proofs.NotLower.{F-not-lower, same-latest}
 
 module _ (t : Table) (accepted : isAccepted (checkTable t) ≡ true) (k : ℕ) (low : 1 ≤ k) (high : k ≤ t .tasks) where
   own-sound : SoundTask (t .cores) (taskOf t k)
@@ -38,14 +41,12 @@ module _ (t : Table) (accepted : isAccepted (checkTable t) ≡ true) (k : ℕ) (
   pub equation-of : Equation (F t k) (lowest t k)
   unfolding F lowest
   equation-of =
-      response-equation (memoryOf t (coreOf t k)) (taskOf t k) (higher t k) (elsewhere t (coreOf t k))
-      (dram-steady t (sound t accepted) (coreOf t k)) (own-sound .C-in .low)
+      response-equation (dram-steady t (sound t accepted) (coreOf t k)) (taskOf t k) (higher t k) (own-sound .C-in .low)
 
   pub steps-of : Steps (F t k) (countsOf t k)
   unfolding F
   steps-of =
-      response-steps (memoryOf t (coreOf t k)) (taskOf t k) (higher t k) (elsewhere t (coreOf t k))
-      (dram-steady t (sound t accepted) (coreOf t k)) period-some
+      response-steps (dram-steady t (sound t accepted) (coreOf t k)) (taskOf t k) (higher t k) period-some
 
   pub lowest-fits : lowest t k ≤ latest (taskOf t k)
   unfolding lowest latest
@@ -63,8 +64,31 @@ limit-of t k = omega (arith, renewals-of (latest (taskOf t k)) (others t k))
 -- a newer table that is the older one worsened
 module _ (older newer : Table) (was : isAccepted (checkTable older) ≡ true) (is : isAccepted (checkTable newer) ≡ true)
     (worse : worsens older newer ≡ true) (k : ℕ) (low : 1 ≤ k) (high : k ≤ older .tasks) where
+  facts : Worsened older newer
+  facts = worsened older newer worse
+
+  own-kept : Kept (older .cores) (taskOf older k) (taskOf newer k)
+  own-kept = kept older newer (sound older was) (sound newer is) facts k low high
+
+  memory-slower : Slower (memoryOf older (coreOf older k)) (memoryOf newer (coreOf newer k))
+  memory-slower =
+      let core = own-kept .was .core-in in
+      rw (← own-kept .raised .core)
+      (dram-slower older newer (sound older was) (sound newer is) facts (coreOf older k) (core .low) (core .high))
+
   pub not-lower : (x : ℕ) → F older k x ≤ F newer k x
-  not-lower = F-not-lower older newer (sound older was) (sound newer is) (worsened older newer worse) k low high
+  unfolding F
+  not-lower x =
+      response-worse memory-slower (kept-no-more x (taskOf older k) (taskOf newer k) own-kept)
+      (paired-map (kept-no-more x) (kept-higher older newer (sound older was) (sound newer is) facts k low high))
+
+  pub lowest-not-lower : lowest older k ≤ lowest newer k
+  unfolding lowest
+  lowest-not-lower = own-kept .raised .exec
 
   pub latest-stays : latest (taskOf older k) ≡ latest (taskOf newer k)
-  latest-stays = same-latest older newer (sound older was) (sound newer is) (worsened older newer worse) k low high
+  unfolding latest
+  latest-stays = own-kept .raised .deadline
+
+  pub number-stays : k ≤ newer .tasks
+  number-stays = omega (arith, facts .board .tasks)

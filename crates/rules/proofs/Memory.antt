@@ -34,7 +34,7 @@ module _ {t u : ℕ} {hp hp′ : List Task} (less : Paired (NoMore t u) hp hp′
 
 -- ---- in time
 
-module _ (m : Memory) (i : Task) (hp elsewhere : List Task) (steady : Steady m elsewhere) where
+module _ {m : Memory} {elsewhere : List Task} (steady : Steady m elsewhere) (i : Task) (hp : List Task) where
   -- a task with itself, at a later time or at one with the same count
   response-later : (t u : ℕ) → ((j : Task) → List·Memᴰ j hp → releases j t ≤ releases j u) → m .perJob t ≤ m .perJob u
       → response m i hp t ≤ response m i hp u
@@ -76,7 +76,7 @@ module _ (m : Memory) (i : Task) (hp elsewhere : List Task) (steady : Steady m e
 
 -- ---- with worse tasks and a slower memory
 
-pub response-worse : (m m′ : Memory) → Slower m m′ → (t : ℕ) (i i′ : Task) → NoMore t t i i′
-    → (hp hp′ : List Task) → Paired (NoMore t t) hp hp′ → response m i hp t ≤ response m′ i′ hp′ t
-response-worse m m′ slower t i i′ own hp hp′ less =
+pub response-worse : {m m′ : Memory} {i i′ : Task} {hp hp′ : List Task} {t : ℕ} → Slower m m′ → NoMore t t i i′
+    → Paired (NoMore t t) hp hp′ → response m i hp t ≤ response m′ i′ hp′ t
+response-worse {m} {m′} {i} {i′} {t} slower own less =
     response-no-more less m m′ (slower .perRequest) (slower .perJob t) i i′ (own .exec) (own .requests)

@@ -16,9 +16,8 @@ use Rattle.rules.specs.Others.{countsOf, roundLimit}
 use Rattle.rules.specs.Order.{worsens}
 use Rattle.rules.specs.Refusals.{isAccepted, checkTable}
 use Rattle.rules.specs.Operations.{olderBound}
-use Rattle.rules.proofs.Worsened.{worsened}
 use Rattle.rules.proofs.Starts.{Judgeable}
-use Rattle.rules.proofs.Instance.{equation-of, steps-of, lowest-fits, limit-of, not-lower, latest-stays}
+use Rattle.rules.proofs.Instance.{equation-of, steps-of, lowest-fits, limit-of, not-lower, latest-stays, number-stays}
 
 module _ (t : Table) (accepted : isAccepted (checkTable t) ≡ true) (k : ℕ) (low : 1 ≤ k) (high : k ≤ t .tasks) where
   -- point 2: the verdict from a fresh start is the least solution from 1 to D, or that there is none; and no other is
@@ -55,12 +54,10 @@ older-bound t k = bound-carried (decider t k) (roundsOf t k 0 .verdict)
 -- point 3: from the older table's bound
 module _ (older newer : Table) (was : isAccepted (checkTable older) ≡ true) (is : isAccepted (checkTable newer) ≡ true)
     (worse : worsens older newer ≡ true) (k : ℕ) (low : 1 ≤ k) (high : k ≤ older .tasks) where
-  high′ : k ≤ newer .tasks
-  high′ = omega (arith, worsened older newer worse .board .tasks)
-
   pub carries : Carries (F newer k) (lowest newer k) (latest (taskOf newer k)) (countsOf newer k) (olderBound older k)
   carries =
       let stays = latest-stays older newer was is worse k low high in
+      let high′ = number-stays older newer was is worse k low high in
       rw (older-bound older k)
       (point-three
       (equation-of older was k low high)
@@ -73,4 +70,8 @@ module _ (older newer : Table) (was : isAccepted (checkTable older) ≡ true) (i
 
   -- the start is not refused
   pub carried-judgeable : Judgeable newer k (olderBound older k)
-  carried-judgeable = record { table = is; number = record { low = low; high = high′ }; allowed = carries .allowed }
+  carried-judgeable = record {
+    table = is;
+    number = record { low = low; high = number-stays older newer was is worse k low high };
+    allowed = carries .allowed;
+  }

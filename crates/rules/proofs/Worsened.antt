@@ -1,4 +1,4 @@
--- A table worsened: what the test says, and that no response equation is lower. Assumes nothing.
+-- The test of a table worsened, taken apart: one law, so that nobody opens the test again. Assumes nothing.
 use mathlib.Core.Path.{_≡_}
 use mathlib.Core.Bool.{true}
 use borrow.Author.Tests.{leb-true, eqb-true}
@@ -8,8 +8,6 @@ use Rattle.rules.specs.Order.{sameBoard, worseTask, worsens}
 use Rattle.rules.specs.Worsened.{Alike, Raised, Worsened}
 use Rattle.rules.proofs.Members.{upTo-has}
 use Rattle.rules.proofs.Tests.{and-both, every-member}
-
--- ---- the test, taken apart
 
 raised : (i j : Task) → worseTask i j ≡ true → Raised i j
 unfolding worseTask
