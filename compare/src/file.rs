@@ -124,7 +124,8 @@ fn read_record(record: &[u8]) -> Task {
     }
 }
 
-fn write_record(task: &Task, record: &mut [u8]) {
+/// Writes the 29 bytes of a task.
+pub fn write_record(task: &Task, record: &mut [u8]) {
     record[0] = task.core;
     record[1..9].copy_from_slice(&task.c.to_le_bytes());
     record[9..17].copy_from_slice(&task.t.to_le_bytes());

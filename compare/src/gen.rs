@@ -1,1 +1,278 @@
+//! A small seeded generator of numbers, and of tables, accepted and faulty.
 
+use crate::delay::Timing;
+use crate::file::{file_length, seal, write_record, RECORD, TRAILER};
+use crate::judge::{Answer, Verdict};
+use crate::table::{Table, Task, DDR3_1333, FIGURES, H_HIGHEST, RANGES, T_HIGHEST, T_LOWEST};
+
+/// splitmix64.
+#[derive(Clone, Debug)]
+pub struct Rng(u64);
+
+impl Rng {
+    pub fn new(seed: u64) -> Rng {
+        Rng(seed)
+    }
+
+    pub fn next(&mut self) -> u64 {
+        self.0 = self.0.wrapping_add(0x9E37_79B9_7F4A_7C15);
+        let z = (self.0 ^ (self.0 >> 30)).wrapping_mul(0xBF58_476D_1CE4_E5B9);
+        let z = (z ^ (z >> 27)).wrapping_mul(0x94D0_49BB_1331_11EB);
+        z ^ (z >> 31)
+    }
+
+    /// From `lowest` to `highest`, both of which can come.
+    pub fn between(&mut self, lowest: u64, highest: u64) -> u64 {
+        lowest + self.next() % (highest - lowest + 1)
+    }
+
+    pub fn index(&mut self, length: usize) -> usize {
+        (self.next() % length as u64) as usize
+    }
+
+    /// True once in `n` times.
+    pub fn once_in(&mut self, n: u64) -> bool {
+        self.next() % n == 0
+    }
+
+    pub fn pick<T: Copy>(&mut self, from: &[T]) -> T {
+        from[self.index(from.len())]
+    }
+
+    /// From `lowest` to `highest`, each order of magnitude as likely as the next.
+    pub fn any_size(&mut self, lowest: u64, highest: u64) -> u64 {
+        let bits = self.between(lowest.max(1).ilog2().into(), highest.max(1).ilog2().into());
+        (self.next() >> (63 - bits)).clamp(lowest, highest)
+    }
+}
+
+/// What a file says, right or wrong. The counts of cores and tasks are those of the sets and the tasks.
+#[derive(Clone, Debug)]
+pub struct Draft {
+    pub partitions: u8,
+    pub fourth: u8,
+    pub timing: [u16; FIGURES],
+    pub sets: Vec<u16>,
+    pub tasks: Vec<Task>,
+}
+
+impl Draft {
+    /// The file, with its trailer.
+    pub fn file(&self) -> Vec<u8> {
+        let mut file = Vec::with_capacity(file_length(self.sets.len(), self.tasks.len()));
+        file.extend([self.sets.len() as u8, self.partitions, self.tasks.len() as u8, self.fourth]);
+        file.extend(self.timing.iter().chain(&self.sets).flat_map(|figure| figure.to_le_bytes()));
+        for task in &self.tasks {
+            let mut record = [0; RECORD];
+            write_record(task, &mut record);
+            file.extend(record);
+        }
+        file.extend([0; TRAILER]);
+        seal(&mut file);
+        file
+    }
+}
+
+/// How the tasks of a generated table are.
+#[derive(Clone, Copy, Debug)]
+enum Style {
+    /// Any figures in range.
+    Any,
+    /// Shorter periods first, and a load that often just about fits.
+    Busy,
+    /// Figures at their limits.
+    Limits,
+}
+
+/// An accepted table.
+pub fn draft(rng: &mut Rng) -> Draft {
+    let cores = match rng.index(4) {
+        0 => rng.pick(&[1, 2, 8]),
+        _ => rng.between(1, 8),
+    };
+    let tasks = match rng.index(4) {
+        0 => rng.pick(&[1, 2, 32]),
+        _ => rng.between(1, 32),
+    };
+    let partitions = rng.between(1, 16) as u8;
+    let style = rng.pick(&[Style::Any, Style::Busy, Style::Busy, Style::Busy, Style::Limits]);
+    Draft {
+        partitions,
+        fourth: 0,
+        timing: timing(rng),
+        sets: sets(rng, cores as usize, partitions),
+        tasks: tasks_of(rng, style, cores, tasks),
+    }
+}
+
+/// An accepted timing: the DDR3-1333 row, a row near it or any row.
+pub fn timing(rng: &mut Rng) -> [u16; FIGURES] {
+    let near = rng.once_in(2);
+    loop {
+        let mut row = DDR3_1333;
+        for (at, figure) in row.iter_mut().enumerate() {
+            if !near || rng.once_in(8) {
+                *figure = in_range(rng, at);
+            }
+        }
+        row[5] = rng.pick(&[4, 8, 8, 16]);
+        row[13] -= row[13] % row[5];
+        if row[13] >= 64 && Timing::new(&row).relations().iter().all(|&holds| holds) {
+            return row;
+        }
+    }
+}
+
+/// A figure in its range, now and then at a limit.
+fn in_range(rng: &mut Rng, at: usize) -> u16 {
+    let (lowest, highest) = RANGES[at];
+    match rng.index(6) {
+        0 => lowest,
+        1 => highest,
+        2 => rng.between(lowest.into(), u64::from(highest).min(u64::from(lowest) + 20)) as u16,
+        _ => rng.between(lowest.into(), highest.into()) as u16,
+    }
+}
+
+/// Sets that pass: apart as far as the partitions reach, all sharing, or any.
+fn sets(rng: &mut Rng, cores: usize, partitions: u8) -> Vec<u16> {
+    let all = u16::MAX >> (16 - partitions);
+    let style = rng.index(4);
+    let shared = rng.between(1, all.into()) as u16;
+    (0..cores)
+        .map(|core| match style {
+            0 => 1 << (core % usize::from(partitions)),
+            1 => shared,
+            2 => 1 << rng.index(partitions.into()),
+            _ => rng.between(1, all.into()) as u16,
+        })
+        .collect()
+}
+
+fn tasks_of(rng: &mut Rng, style: Style, cores: u64, count: u64) -> Vec<Task> {
+    let mut tasks: Vec<Task> = (0..count).map(|_| task(rng, style, cores, count)).collect();
+    if matches!(style, Style::Busy) {
+        tasks.sort_by_key(|task| task.t);
+    }
+    tasks
+}
+
+fn task(rng: &mut Rng, style: Style, cores: u64, count: u64) -> Task {
+    let core = rng.between(1, cores) as u8;
+    match style {
+        Style::Any => {
+            let t = rng.any_size(T_LOWEST, T_HIGHEST);
+            let d = if rng.once_in(2) { t } else { rng.any_size(1, t) };
+            Task { core, c: rng.any_size(1, d), t, d, h: rng.any_size(0, H_HIGHEST.into()) as u32 }
+        }
+        Style::Busy => {
+            let t = rng.any_size(T_LOWEST, T_HIGHEST);
+            let d = if rng.once_in(2) { t } else { rng.between(t / 2, t) };
+            let share = (count / cores).max(1);
+            let c = rng.between(1, d / share).clamp(1, d);
+            Task { core, c, t, d, h: busy_requests(rng, t) }
+        }
+        Style::Limits => {
+            let t = rng.pick(&[T_LOWEST, T_HIGHEST]);
+            let d = rng.pick(&[1, 2, t / 2, t - 1, t]);
+            let c = rng.pick(&[1, d, (d / 10).max(1), (d / 40).max(1)]);
+            Task { core, c, t, d, h: rng.pick(&[0, 1, H_HIGHEST - 1, H_HIGHEST]) }
+        }
+    }
+}
+
+/// None, a few, as many as a period has room for, or as many as are allowed.
+fn busy_requests(rng: &mut Rng, t: u64) -> u32 {
+    let highest = u64::from(H_HIGHEST);
+    let requests = match rng.index(6) {
+        0 => 0,
+        1 => rng.between(0, 100),
+        2 => rng.any_size(0, highest),
+        3 => highest,
+        _ => rng.between(0, t / 1_000_000),
+    };
+    requests.min(highest) as u32
+}
+
+/// Starts for the tasks of an accepted table whose fresh answers are known: of every kind, too few and too many.
+pub fn starts(rng: &mut Rng, table: &Table, fresh: &[Answer]) -> Vec<u64> {
+    let safe = rng.once_in(2);
+    let kind = rng.index(8);
+    let mut starts: Vec<u64> = table
+        .tasks()
+        .iter()
+        .zip(fresh)
+        .map(|(task, answer)| {
+            let kind = if kind == 7 { rng.index(7) } else { kind };
+            start(rng, kind, task, answer)
+        })
+        .collect();
+    if !safe {
+        let at = rng.index(starts.len());
+        let task = &table.tasks()[at];
+        starts[at] = rng.pick(&[task.d, task.d + 1, u64::MAX, task.d / 2, 1 << 63, task.t]);
+    }
+    match rng.index(4) {
+        0 => starts.truncate(rng.index(starts.len() + 1)),
+        1 => starts.extend((0..rng.index(12)).map(|_| u64::MAX)),
+        _ => {}
+    }
+    starts
+}
+
+/// One start. Those of kinds 0 to 3 are never refused.
+fn start(rng: &mut Rng, kind: usize, task: &Task, fresh: &Answer) -> u64 {
+    let bound = match fresh.verdict {
+        Verdict::Holds { bound, .. } => bound,
+        Verdict::Misses => 0,
+    };
+    match kind {
+        0 => 0,
+        1 => bound,
+        2 => rng.between(0, bound),
+        3 => task.c.min(bound),
+        4 => bound + 1,
+        5 => rng.between(bound, task.d),
+        _ => rng.between(0, task.d),
+    }
+}
+
+/// A table of `tasks` tasks on `cores` cores, all apart, for measuring: a light one, or one that takes many rounds.
+pub fn measured(rng: &mut Rng, tasks: usize, cores: usize, heavy: bool) -> Draft {
+    Draft {
+        partitions: cores as u8,
+        fourth: 0,
+        timing: DDR3_1333,
+        sets: (0..cores).map(|core| 1 << core).collect(),
+        tasks: (0..tasks)
+            .map(|k| if heavy { heavy_task(rng, k, tasks, cores) } else { light_task(rng, k, tasks, cores) })
+            .collect(),
+    }
+}
+
+/// A tenth to three tenths of each core's time, and few requests.
+fn light_task(rng: &mut Rng, k: usize, tasks: usize, cores: usize) -> Task {
+    let t = rng.between(1_000_000_000, 100_000_000_000);
+    let share = tasks.div_ceil(cores) as u64;
+    let c = t * rng.between(10, 30) / 100 / share;
+    Task { core: (k % cores + 1) as u8, c, t, d: t, h: rng.between(0, 500) as u32 }
+}
+
+/// The first half have the shortest periods and take most of the time, of their core or of the memory. The others have long
+/// periods, and a response that creeps up to its bound by one short period after another.
+fn heavy_task(rng: &mut Rng, k: usize, tasks: usize, cores: usize) -> Task {
+    let core = (k % cores + 1) as u8;
+    let short = tasks / 2;
+    let used = short.min(cores) as u64;
+    let share = short.div_ceil(cores) as u64;
+    if k < short {
+        let t = rng.between(T_LOWEST, 2 * T_LOWEST);
+        let load = rng.between(300, 970);
+        let c = t * load / 1000 / share;
+        let h = t * (970 - load) / 1000 / (37_500 * used * share);
+        Task { core, c: c.max(1), t, d: t, h: h as u32 }
+    } else {
+        let c = T_HIGHEST / 1000 * rng.between(1, 30);
+        Task { core, c, t: T_HIGHEST, d: T_HIGHEST, h: rng.pick(&[0, 10_000, H_HIGHEST]) }
+    }
+}
