@@ -328,7 +328,10 @@ fn wide_totals(on: &mut Comparer, rng: &mut Rng) -> Outcome {
 
 /// One random table, whole and in some ways damaged.
 fn random(on: &mut Comparer, rng: &mut Rng, case: u64) -> Outcome {
-    let draft = gen::draft(rng);
+    let draft = match case % 8 {
+        7 => gen::measured(rng, 4 + case as usize % 29, 2 + case as usize % 7, true),
+        _ => gen::draft(rng),
+    };
     let file = draft.file();
     whole(on, rng, &file)?;
     for _ in 0..8 {

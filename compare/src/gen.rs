@@ -78,8 +78,8 @@ impl Draft {
 enum Style {
     /// Any figures in range.
     Any,
-    /// Shorter periods first, and a load that often just about fits.
-    Busy,
+    /// Shorter periods first, and a load that often just about fits where a request takes so long.
+    Busy { per_request: u64 },
     /// Figures at their limits.
     Limits,
 }
@@ -95,7 +95,8 @@ pub fn draft(rng: &mut Rng) -> Draft {
         _ => rng.between(1, 32),
     };
     let partitions = rng.between(1, 16) as u8;
-    let style = rng.pick(&[Style::Any, Style::Busy, Style::Busy, Style::Busy, Style::Limits]);
+    let busy = Style::Busy { per_request: 10u64.pow(rng.between(6, 10) as u32) };
+    let style = rng.pick(&[Style::Any, busy, busy, busy, Style::Limits]);
     Draft {
         partitions,
         fourth: 0,
@@ -151,7 +152,7 @@ fn sets(rng: &mut Rng, cores: usize, partitions: u8) -> Vec<u16> {
 
 fn tasks_of(rng: &mut Rng, style: Style, cores: u64, count: u64) -> Vec<Task> {
     let mut tasks: Vec<Task> = (0..count).map(|_| task(rng, style, cores, count)).collect();
-    if matches!(style, Style::Busy) {
+    if matches!(style, Style::Busy { .. }) {
         tasks.sort_by_key(|task| task.t);
     }
     tasks
@@ -165,12 +166,12 @@ fn task(rng: &mut Rng, style: Style, cores: u64, count: u64) -> Task {
             let d = if rng.once_in(2) { t } else { rng.any_size(1, t) };
             Task { core, c: rng.any_size(1, d), t, d, h: rng.any_size(0, H_HIGHEST.into()) as u32 }
         }
-        Style::Busy => {
+        Style::Busy { per_request } => {
             let t = rng.any_size(T_LOWEST, T_HIGHEST);
             let d = if rng.once_in(2) { t } else { rng.between(t / 2, t) };
-            let share = (count / cores).max(1);
-            let c = rng.between(1, d / share).clamp(1, d);
-            Task { core, c, t, d, h: busy_requests(rng, t) }
+            let share = count.div_ceil(cores);
+            let c = rng.between(1, d / share);
+            Task { core, c, t, d, h: busy_requests(rng, t / per_request) }
         }
         Style::Limits => {
             let t = rng.pick(&[T_LOWEST, T_HIGHEST]);
@@ -181,15 +182,15 @@ fn task(rng: &mut Rng, style: Style, cores: u64, count: u64) -> Task {
     }
 }
 
-/// None, a few, as many as a period has room for, or as many as are allowed.
-fn busy_requests(rng: &mut Rng, t: u64) -> u32 {
+/// Mostly as many as there is room for.
+fn busy_requests(rng: &mut Rng, room: u64) -> u32 {
     let highest = u64::from(H_HIGHEST);
-    let requests = match rng.index(6) {
-        0 => 0,
-        1 => rng.between(0, 100),
-        2 => rng.any_size(0, highest),
-        3 => highest,
-        _ => rng.between(0, t / 1_000_000),
+    let requests = match rng.index(16) {
+        0 => rng.between(0, 100),
+        1 => rng.any_size(0, highest),
+        2 => highest,
+        3 | 4 => 0,
+        _ => rng.between(0, room),
     };
     requests.min(highest) as u32
 }
@@ -258,8 +259,8 @@ fn light_task(rng: &mut Rng, k: usize, tasks: usize, cores: usize) -> Task {
     Task { core: (k % cores + 1) as u8, c, t, d: t, h: rng.between(0, 500) as u32 }
 }
 
-/// The first half have the shortest periods and take most of the time, of their core or of the memory. The others have long
-/// periods, and a response that creeps up to its bound by one short period after another.
+/// The first half have the shortest periods and take most of the time: of the memory, and of their core where others run on it.
+/// The others have long periods, and a response that creeps up to its bound by one short period after another.
 fn heavy_task(rng: &mut Rng, k: usize, tasks: usize, cores: usize) -> Task {
     let core = (k % cores + 1) as u8;
     let short = tasks / 2;
@@ -267,7 +268,7 @@ fn heavy_task(rng: &mut Rng, k: usize, tasks: usize, cores: usize) -> Task {
     let share = short.div_ceil(cores) as u64;
     if k < short {
         let t = rng.between(T_LOWEST, 2 * T_LOWEST);
-        let load = rng.between(300, 970);
+        let load = if tasks <= cores { rng.between(10, 100) } else { rng.between(300, 970) };
         let c = t * load / 1000 / share;
         let h = t * (970 - load) / 1000 / (37_500 * used * share);
         Task { core, c: c.max(1), t, d: t, h: h as u32 }
