@@ -14,9 +14,14 @@ type Outcome = Result<(), Difference>;
 
 /// Where figures stand in the timing.
 const CL: usize = 3;
+const WL: usize = 4;
+const TWTR: usize = 6;
 const TWR: usize = 7;
+const TRRD: usize = 8;
+const TFAW: usize = 9;
 const TRAS: usize = 10;
 const TRTP: usize = 11;
+const TRTRS: usize = 12;
 const NCOLS: usize = 13;
 
 /// All fixed cases, then `count` random tables.
@@ -26,6 +31,7 @@ pub fn all(on: &mut Comparer, seed: u64, count: u64) -> Outcome {
     counts(on)?;
     figure_limits(on)?;
     relations(on)?;
+    largest_of(on)?;
     set_limits(on)?;
     task_limits(on)?;
     trailers(on)?;
@@ -101,8 +107,7 @@ fn extreme_rows() -> [[u16; FIGURES]; 2] {
 fn figure_limits(on: &mut Comparer) -> Outcome {
     let [lowest, highest] = extreme_rows();
     for row in [lowest, highest, DDR3_1333] {
-        for at in 0..FIGURES {
-            let (low, high) = RANGES[at];
+        for (at, (low, high)) in RANGES.into_iter().enumerate() {
             let mut values =
                 vec![low, low.wrapping_sub(1), high, high.wrapping_add(1), 0, u16::MAX, u16::MAX - 1, 256, 384];
             if at == BL {
@@ -139,6 +144,31 @@ fn relations(on: &mut Comparer) -> Outcome {
             }
         }
         calls(on, &draft.file())?;
+    }
+    Ok(())
+}
+
+/// Timings in which each of the figures that a delay is the largest of is the largest in turn. Two cores are apart and have
+/// requests, so that the bound shows the delay.
+fn largest_of(on: &mut Comparer) -> Outcome {
+    let mut draft = plain(2, 2, 2);
+    draft.sets = vec![1, 2];
+    draft.timing[TRAS] = 1;
+    draft.timing[TRTP] = 1;
+    for bl in [4, 8, 16] {
+        for (wl, cl) in (1..=6).flat_map(|wl| (1..=20).map(move |cl| (wl, cl))) {
+            for (twtr, trtrs) in [(1, 0), (1, 1), (1, 2), (1, 9), (5, 0), (5, 4), (10, 1)] {
+                draft.timing[BL] = bl;
+                draft.timing[CL..=WL].copy_from_slice(&[cl, wl]);
+                draft.timing[TWTR] = twtr;
+                draft.timing[TRTRS] = trtrs;
+                on.judge(&draft.file(), &[], Reaches::all(TASKS))?;
+            }
+        }
+    }
+    for (trrd, tfaw) in (1..=8).flat_map(|trrd| (1..=40).map(move |tfaw| (trrd, tfaw))) {
+        draft.timing[TRRD..=TFAW].copy_from_slice(&[trrd, tfaw]);
+        on.judge(&draft.file(), &[], Reaches::all(TASKS))?;
     }
     Ok(())
 }
@@ -300,28 +330,10 @@ fn examples(on: &mut Comparer) -> Outcome {
     Ok(())
 }
 
-/// Tables whose request total goes past 64 bits while the job delay is small.
+/// Tables whose request total goes past 64 bits, and just past a multiple of 2^64.
 fn wide_totals(on: &mut Comparer, rng: &mut Rng) -> Outcome {
-    let [_, highest] = extreme_rows();
-    for _ in 0..200 {
-        let mut draft = plain(CORES, 16, TASKS);
-        draft.timing = highest;
-        draft.timing[BL] = rng.pick(&[4, 4, 8]);
-        draft.sets = (0..CORES).map(|core| if core < 2 { 1 } else { 1 << core }).collect();
-        let last = draft.tasks.len() - 1;
-        for (k, task) in draft.tasks.iter_mut().enumerate() {
-            let quiet = rng.once_in(3);
-            *task = Task { core: 1, c: 1, t: T_LOWEST, d: T_LOWEST, h: 1_000_000 - rng.index(3) as u32 };
-            if k == last {
-                *task =
-                    Task { core: 1, c: T_HIGHEST - rng.between(1, 1 << 36), t: T_HIGHEST, d: T_HIGHEST, h: 1_000_000 };
-            } else if quiet {
-                task.core = rng.between(2, CORES as u64) as u8;
-                task.t = T_HIGHEST;
-                task.h = rng.index(200) as u32;
-            }
-        }
-        calls(on, &draft.file())?;
+    for _ in 0..50 {
+        calls(on, &gen::wide(rng).file())?;
     }
     Ok(())
 }
@@ -336,7 +348,7 @@ fn random(on: &mut Comparer, rng: &mut Rng, case: u64) -> Outcome {
     whole(on, rng, &file)?;
     for _ in 0..8 {
         let at = rng.index(file.len());
-        altered(on, &file, at, rng.next() as u8)?;
+        altered(on, &file, at, rng.word() as u8)?;
     }
     for _ in 0..4 {
         calls(on, &faulty(rng, &draft).file())?;
@@ -344,7 +356,7 @@ fn random(on: &mut Comparer, rng: &mut Rng, case: u64) -> Outcome {
     match case % 16 {
         0 => cuts(on, &file),
         1 => records(on, &file),
-        2 => (0..file.len()).try_for_each(|at| altered(on, &file, at, rng.next() as u8)),
+        2 => (0..file.len()).try_for_each(|at| altered(on, &file, at, rng.word() as u8)),
         _ => Ok(()),
     }
 }
@@ -362,7 +374,7 @@ fn whole(on: &mut Comparer, rng: &mut Rng, file: &[u8]) -> Outcome {
     for room in [0, 1, length - 1, length, length + 1, length + rng.index(99)] {
         on.list(file, room)?;
     }
-    for number in [0, table.tasks, table.tasks + 1, rng.next() as u8] {
+    for number in [0, table.tasks, table.tasks + 1, rng.word() as u8] {
         on.record(file, number)?;
     }
     Ok(())
@@ -424,12 +436,12 @@ fn break_one(rng: &mut Rng, draft: &mut Draft) {
     let cores = draft.sets.len() as u8;
     let task = &mut draft.tasks[task];
     match rng.index(14) {
-        0 => draft.fourth = rng.next() as u8,
+        0 => draft.fourth = rng.word() as u8,
         1 => draft.partitions = rng.pick(&[0, 1, 17, 255]),
-        2 => draft.timing[rng.index(FIGURES)] = rng.next() as u16,
+        2 => draft.timing[rng.index(FIGURES)] = rng.word() as u16,
         3 => draft.timing[rng.index(FIGURES)] = rng.pick(&[0, 1, 127, 128]),
         4 => draft.sets[core] = 0,
-        5 => draft.sets[core] = rng.next() as u16,
+        5 => draft.sets[core] = rng.word() as u16,
         6 => task.core = 0,
         7 => task.core = cores + 1,
         8 => task.t = rng.pick(&[T_LOWEST - 1, T_HIGHEST + 1, 0, u64::MAX]),

@@ -155,7 +155,7 @@ impl Comparer {
 
     /// Words that no answer is likely to be, also behind the lent places.
     fn filled(&mut self, reach: usize) -> Vec<u64> {
-        (0..reach + BEHIND).map(|_| self.filler.next()).collect()
+        (0..reach + BEHIND).map(|_| self.filler.word()).collect()
     }
 
     fn count(&mut self, code: u16) {

@@ -1,9 +1,12 @@
 //! A small seeded generator of numbers, and of tables, accepted and faulty.
 
-use crate::delay::Timing;
+use crate::delay::{Delays, Timing};
 use crate::file::{file_length, seal, write_record, RECORD, TRAILER};
 use crate::judge::{Answer, Verdict};
-use crate::table::{Table, Task, DDR3_1333, FIGURES, H_HIGHEST, RANGES, T_HIGHEST, T_LOWEST};
+use crate::table::{Table, Task, BL, DDR3_1333, FIGURES, H_HIGHEST, RANGES, T_HIGHEST, T_LOWEST};
+
+/// The place of Ncols among the figures, from 0.
+const NCOLS: usize = 13;
 
 /// splitmix64.
 #[derive(Clone, Debug)]
@@ -14,7 +17,7 @@ impl Rng {
         Rng(seed)
     }
 
-    pub fn next(&mut self) -> u64 {
+    pub fn word(&mut self) -> u64 {
         self.0 = self.0.wrapping_add(0x9E37_79B9_7F4A_7C15);
         let z = (self.0 ^ (self.0 >> 30)).wrapping_mul(0xBF58_476D_1CE4_E5B9);
         let z = (z ^ (z >> 27)).wrapping_mul(0x94D0_49BB_1331_11EB);
@@ -23,16 +26,16 @@ impl Rng {
 
     /// From `lowest` to `highest`, both of which can come.
     pub fn between(&mut self, lowest: u64, highest: u64) -> u64 {
-        lowest + self.next() % (highest - lowest + 1)
+        lowest + self.word() % (highest - lowest + 1)
     }
 
     pub fn index(&mut self, length: usize) -> usize {
-        (self.next() % length as u64) as usize
+        (self.word() % length as u64) as usize
     }
 
     /// True once in `n` times.
     pub fn once_in(&mut self, n: u64) -> bool {
-        self.next() % n == 0
+        self.between(1, n) == 1
     }
 
     pub fn pick<T: Copy>(&mut self, from: &[T]) -> T {
@@ -42,7 +45,7 @@ impl Rng {
     /// From `lowest` to `highest`, each order of magnitude as likely as the next.
     pub fn any_size(&mut self, lowest: u64, highest: u64) -> u64 {
         let bits = self.between(lowest.max(1).ilog2().into(), highest.max(1).ilog2().into());
-        (self.next() >> (63 - bits)).clamp(lowest, highest)
+        (self.word() >> (63 - bits)).clamp(lowest, highest)
     }
 }
 
@@ -116,9 +119,9 @@ pub fn timing(rng: &mut Rng) -> [u16; FIGURES] {
                 *figure = in_range(rng, at);
             }
         }
-        row[5] = rng.pick(&[4, 8, 8, 16]);
-        row[13] -= row[13] % row[5];
-        if row[13] >= 64 && Timing::new(&row).relations().iter().all(|&holds| holds) {
+        row[BL] = rng.pick(&[4, 8, 8, 16]);
+        row[NCOLS] -= row[NCOLS] % row[BL];
+        if row[NCOLS] >= 64 && Timing::new(&row).relations().iter().all(|&holds| holds) {
             return row;
         }
     }
@@ -238,6 +241,54 @@ fn start(rng: &mut Rng, kind: usize, task: &Task, fresh: &Answer) -> u64 {
     }
 }
 
+/// A table whose last task has a request total just past a multiple of 2^64, and a job delay that is far smaller than that but
+/// larger than what is left of it by 64 bits.
+///
+/// Cores 1 and 2 share a partition and all others are apart, under the slowest timing. The higher tasks of core 1 are released
+/// `releases` times each, and the last response stays within that many of their periods.
+pub fn wide(rng: &mut Rng) -> Draft {
+    let mut draft = Draft {
+        partitions: 8,
+        fourth: 0,
+        timing: RANGES.map(|(_, highest)| highest),
+        sets: vec![1, 1, 4, 8, 16, 32, 64, 128],
+        tasks: Vec::new(),
+    };
+    draft.timing[BL] = 4;
+    loop {
+        draft.timing[0] = rng.between(4000, 5000) as u16;
+        let sets = draft.sets.as_slice().try_into().expect("there are eight");
+        let table = Table { cores: 8, timing: draft.timing, sets, ..Table::default() };
+        let per_request = Delays::new(&table).request(0);
+        let multiple = u128::from(rng.between(1, 60)) << 64;
+        let requests = multiple.div_ceil(per_request);
+        let left = requests * per_request - multiple;
+        if left < u128::from(T_LOWEST / 2) {
+            draft.tasks = wide_tasks(rng, requests as u64, &Timing::new(&draft.timing));
+            return draft;
+        }
+    }
+}
+
+fn wide_tasks(rng: &mut Rng, requests: u64, timing: &Timing) -> Vec<Task> {
+    let higher = 30;
+    let releases = rng.between(9_900, 10_000);
+    let each = requests / releases / higher;
+    let spare = (requests / releases % higher) as usize;
+    let mut tasks: Vec<Task> =
+        (0..higher).map(|_| Task { core: 1, c: 1, t: T_LOWEST, d: T_LOWEST, h: each as u32 }).collect();
+    for task in &mut tasks[..spare] {
+        task.h += 1;
+    }
+    let per_job_request = (timing.conf() * timing.tck) as u64;
+    let job = T_LOWEST * 3 / 4;
+    let other = Task { core: 2, c: 1, t: T_HIGHEST, d: T_HIGHEST, h: (job / 2 / per_job_request) as u32 };
+    let c = (releases - 1) * T_LOWEST + 1;
+    let last = Task { core: 1, c, t: T_HIGHEST, d: T_HIGHEST, h: (requests % releases) as u32 };
+    tasks.extend([other, last]);
+    tasks
+}
+
 /// A table of `tasks` tasks on `cores` cores, all apart, for measuring: a light one, or one that takes many rounds.
 pub fn measured(rng: &mut Rng, tasks: usize, cores: usize, heavy: bool) -> Draft {
     Draft {
@@ -275,5 +326,34 @@ fn heavy_task(rng: &mut Rng, k: usize, tasks: usize, cores: usize) -> Task {
     } else {
         let c = T_HIGHEST / 1000 * rng.between(1, 30);
         Task { core, c, t: T_HIGHEST, d: T_HIGHEST, h: rng.pick(&[0, 10_000, H_HIGHEST]) }
+    }
+}
+
+#[cfg(test)]
+mod tests {
+    use super::*;
+    use crate::file;
+    use crate::judge::{By, Judge};
+
+    /// The whole numbers hold by job; 64 bits would hold by request.
+    #[test]
+    fn wide_tables_hold_by_job() {
+        let mut rng = Rng::new(1);
+        for _ in 0..20 {
+            let table = file::read(&wide(&mut rng).file()).expect("a wide table is accepted");
+            let judge = Judge::of_accepted(&table);
+            let answer = judge.one(table.tasks, 0).expect("a fresh judgement is never refused");
+            assert!(matches!(answer, Answer { verdict: Verdict::Holds { by: By::Job, .. }, rounds: 2 }), "{answer:?}");
+        }
+    }
+
+    #[test]
+    fn generated_tables_are_accepted() {
+        let mut rng = Rng::new(2);
+        for _ in 0..2000 {
+            assert!(file::read(&draft(&mut rng).file()).is_ok());
+            assert!(file::read(&measured(&mut rng, 32, 8, true).file()).is_ok());
+            assert!(file::read(&measured(&mut rng, 4, 8, false).file()).is_ok());
+        }
     }
 }
