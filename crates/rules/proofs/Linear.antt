@@ -53,7 +53,7 @@ sum-swap f [] ys = sym (sum-zero ys)
 sum-swap f (x ∷ xs) ys =
     omega (arith, sum-swap f xs ys, sum-plus (λ y. f x y) (λ y. sumOver xs (λ z. f z y)) ys)
 
--- of the numbers 1 to n only the one that is c counts
+-- a test that only one number passes
 module _ (f : ℕ → ℕ) (c : ℕ) where
   abbrev only : ℕ → ℕ
   only q = cond (eqb c q) (f q) 0

@@ -1,14 +1,14 @@
--- What one request of core q costs a job of core p: JD is linear in each core's arrivals. Assumes nothing.
+-- What one request of core q costs a job of core p: JD is linear in each core's arrivals, and so in each task's. Assumes nothing.
 use mathlib.Core.Path.{_≡_, refl, sym, ap, fun-ext, _∙_}
 use mathlib.Core.Bool.{Bool, true, false, cond, not, and-comm, and-false}
 use mathlib.Core.List.{List, List·Memᴰ}
 use Prim.Native.Nat.{ℕ, _+_, _*_}
 use native.Mathlib.Omega.{arith}
 use native.Mathlib.Nat.{mul-comm}
-use Rattle.rules.specs.declared.Task.{Task}
-use Rattle.rules.specs.declared.Table.{Table}
 use lib.Dec.{eqb}
 use borrow.Author.Tests.{eq-eqb, eqb-true}
+use Rattle.rules.specs.declared.Task.{Task}
+use Rattle.rules.specs.declared.Table.{Table}
 use Rattle.rules.specs.Idioms.{sumOver, some, upTo, below}
 use Rattle.rules.specs.Tasks.{H, releases, tasksOf, isOn, tasksOn, elsewhere, arrivals}
 use Rattle.rules.specs.Cores.{bit, share, setOf, isNear, isFar, near, far}
@@ -58,25 +58,22 @@ module _ (t : Table) (x : ℕ) where
   passed-on-charged : (p : ℕ) → sumOver (near t p) (λ r. jinter t r x) ≡ charged (λ q. sumOver (near t p) (λ r. ifFar t r q))
   passed-on-charged p = sum-same _ _ (near t p) (λ r m. jinter-charged r) ∙ charged-sum (ifFar t) (near t p)
 
-  JD-charged : (p : ℕ) → JD t p x ≡ charged (weight t p)
-  unfolding JD weight
-  JD-charged p =
-      omega (
-        arith,
-        jinter-charged p,
-        conflicts-charged p,
-        passed-on-charged p,
-        sum-plus (λ q. arrivals t q x * conflict t .0) (λ q. jinter t q x) (near t p),
-        charged-plus (ifFar t p) (ifNear t p),
-        charged-plus (λ q. ifFar t p q + ifNear t p q) (λ q. sumOver (near t p) (λ r. ifFar t r q)),
-      )
-
 pub JD-by-core : (t : Table) (p x : ℕ) → JD t p x ≡ sumOver (upTo (t .cores)) (λ q. arrivals t q x * weight t p q)
-JD-by-core t p x = JD-charged t x p
+unfolding JD weight
+JD-by-core t p x =
+    omega (
+      arith,
+      jinter-charged t x p,
+      conflicts-charged t x p,
+      passed-on-charged t x p,
+      sum-plus (λ q. arrivals t q x * conflict t .0) (λ q. jinter t q x) (near t p),
+      charged-plus t x (ifFar t p) (ifNear t p),
+      charged-plus t x (λ q. ifFar t p q + ifNear t p q) (λ q. sumOver (near t p) (λ r. ifFar t r q)),
+    )
 
 -- ---- a core's own requests cost it nothing
 
-pub share-comm : (a b : ℕ) → share a b ≡ share b a
+share-comm : (a b : ℕ) → share a b ≡ share b a
 unfolding share
 share-comm a b = ap (λ (f : ℕ → Bool). some f (below 16)) (fun-ext (λ k. and-comm (bit a k) (bit b k)))
 
