@@ -1,0 +1,12 @@
+pub mod ByteLists
+pub mod Rows
+pub mod ByteSums
+pub mod Tests
+pub mod Whole
+pub mod Damage
+pub mod Codes
+pub mod Places
+pub mod FromFile
+pub mod Widths
+pub mod FromTable
+pub mod Files

@@ -1,0 +1,3 @@
+-- The mission's demands as statements about the rules.
+--     Files  what is demanded of table files
+pub mod Files
