@@ -10,3 +10,5 @@ pub mod FromFile
 pub mod Widths
 pub mod FromTable
 pub mod Files
+pub mod Point2
+pub mod Point3
