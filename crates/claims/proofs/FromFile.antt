@@ -1,13 +1,13 @@
 -- The table that is read from a whole file is written as that file. Assumes nothing.
 use mathlib.Core.Path.{_≡_, refl, sym, ap, _∙_}
-use mathlib.Core.List.{List, [], _∷_, _++_, map}
+use mathlib.Core.List.{List, [], _∷_, map}
 use Prim.Native.Nat.{ℕ, zero, suc, _+_, _*_, _-_, _≤_}
 use native.Mathlib.Omega.{arith}
 use lib.ListN.{length, take, replicate, length-map}
 use lib.Seq.{take-at, take-add}
 use Rattle.rules.specs.Idioms.{from, filled, number, part}
 use Rattle.rules.specs.Tasks.{noTask}
-use Rattle.rules.specs.File.{setsAt, recordsAt, recordSize, recordAt, fileLength, recordTask, body, encode, coresIn, partitionsIn, tasksIn, formIn, recordIn, decode}
+use Rattle.rules.specs.File.{setsAt, recordsAt, recordSize, recordAt, recordTask, body, encode, coresIn, partitionsIn, tasksIn, formIn, recordIn, decode}
 use Rattle.rules.proofs.Bytes.{Bytes}
 use Rattle.claims.proofs.Rows.{written-back}
 use Rattle.claims.proofs.Codes.{number-code, task-code}

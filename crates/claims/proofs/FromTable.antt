@@ -1,22 +1,19 @@
 -- The file that is written for an accepted table is whole, and the table that is read from it is that table, cleared. Assumes nothing.
-use mathlib.Core.Path.{_≡_, refl, sym, ap, _∙_}
-use mathlib.Core.Bool.{true}
-use mathlib.Core.List.{List, [], _∷_, _++_, map, append-assoc}
-use Prim.Native.Nat.{ℕ, _+_, _*_, _-_, _^_, _≤_, _<_}
+use mathlib.Core.Path.{_≡_, refl}
+use mathlib.Core.List.{_++_, map}
+use Prim.Native.Nat.{ℕ, _+_, _*_, _≤_, _<_}
 use native.Mathlib.Omega.{arith}
 use lib.ListN.{length, take, drop, getD, length-append}
-use lib.Seq.{length-take-le, getD-take, take-at, drop-at, drop-drop, drop-append-add}
+use lib.Seq.{length-take-le, getD-take, drop-at, drop-drop}
 use Rattle.rules.specs.declared.Table.{Table}
-use Rattle.rules.specs.Idioms.{from, below, upTo, filled, number, bytes, part}
+use Rattle.rules.specs.Idioms.{below, upTo, filled, number, bytes, part}
 use Rattle.rules.specs.Tasks.{noTask, tasksOf}
-use Rattle.rules.specs.File.{setsAt, recordsAt, recordSize, recordAt, fileLength, recordBytes, recordTask, sumOf, runningSum, trailer, body, encode, coresIn, tasksIn, formIn, recordIn, decode}
-use Rattle.rules.specs.Refusals.{isAccepted, checkTable}
+use Rattle.rules.specs.File.{setsAt, recordsAt, recordSize, recordAt, fileLength, recordBytes, recordTask, trailer, body, encode, recordIn, decode}
 use Rattle.rules.proofs.Accepted.{sound}
-use Rattle.rules.proofs.Bytes.{Bytes, none, more, bytes-length, bytes-are, number-bytes}
+use Rattle.rules.proofs.Bytes.{Bytes, none, more, bytes-are, number-bytes}
 use Rattle.claims.specs.Files.{AcceptedTable, Shape, cleared}
 use Rattle.claims.proofs.ByteLists.{bytes-append, bytes-joined}
 use Rattle.claims.proofs.Rows.{written-length, read-back}
-use Rattle.claims.proofs.ByteSums.{sum-fits, running-fits}
 use Rattle.claims.proofs.Codes.{number-code, task-code, record-bytes, task-known}
 use Rattle.claims.proofs.Whole.{Whole, trailer-length, trailed-whole}
 use Rattle.claims.proofs.Places.{header, figureBytes, setBytes, taskBytes, body-parts, encode-parts, figure-ladder, set-ladder, record-ladder, sets-after-figures, records-after-sets, trailer-after-records}
@@ -101,7 +98,7 @@ module _ {t : Table} (shape : Shape t) (passed : AcceptedTable t) where
   unfolding figureBytes
   figures-back =
       rw (shape .figures) at
-        (read-back (number-code 2) (encode t) figure-ladder 0 (t .timing) _ after-header (λ k less. number-bytes 2 _ (figure-fits t passed k (omega (arith, shape .figures)))))
+      (read-back (number-code 2) (encode t) figure-ladder 0 (t .timing) _ after-header (λ k less. number-bytes 2 _ (figure-fits t passed k (omega (arith, shape .figures)))))
 
   sets-back : map (λ k. number (part (encode t) (setsAt (t .fourth) + 2 * k) 2)) (below (t .cores)) ≡ take (t .cores) (t .sets)
   unfolding setBytes

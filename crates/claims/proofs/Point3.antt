@@ -1,20 +1,20 @@
 -- Point 3 holds, and its premise on starts is needed. Assumes nothing.
-use mathlib.Core.Path.{_≡_, refl, ap}
+use mathlib.Core.Path.{_≡_, refl}
 use mathlib.Core.Bool.{true}
 use Prim.Native.Nat.{ℕ, _≤_}
 use native.Mathlib.Omega.{arith}
 use Rattle.equation.specs.Carry.{Carries}
-use Rattle.equation.proofs.Least.{right-unique}
 use Rattle.rules.specs.declared.Table.{Table}
 use Rattle.rules.specs.Tasks.{releases, latest, taskOf}
 use Rattle.rules.specs.Others.{countsOf}
-use Rattle.rules.specs.Response.{F, decider}
-use Rattle.rules.specs.Judgement.{withDelay, lowest, roundsOf, judge}
+use Rattle.rules.specs.Response.{F}
+use Rattle.rules.specs.Judgement.{lowest, roundsOf, judge}
 use Rattle.rules.specs.Refusals.{isAccepted, checkOne}
 use Rattle.rules.specs.Operations.{olderBound}
 use Rattle.rules.proofs.Starts.{Judgeable, one-judgeable, judgeable-one}
-use Rattle.rules.proofs.Points.{fresh-right, start-right, start-limit, carries, carried-judgeable}
+use Rattle.rules.proofs.Points.{start-right, start-limit, carries, carried-judgeable}
 use Rattle.rules.proofs.Worsened.{worsened}
+use Rattle.rules.proofs.Again.{carried-verdict}
 use Rattle.rules.specs.declared.Delay.the-variants.{Request}
 use Rattle.rules.specs.declared.Verdict.the-variants.{Holds}
 use Rattle.rules.specs.Units.{ps}
@@ -42,12 +42,6 @@ module _ (older newer : Table) (k : ℕ) (w : Worsened older newer k) where
   unfolding roundsOf latest
   right-of-newer = right newer k (olderBound older k) 1 (carry .right)
 
-  same-verdict : judge newer k (olderBound older k) .verdict ≡ judge newer k 0 .verdict
-  unfolding judge roundsOf
-  same-verdict =
-      ap (withDelay (decider newer k))
-      (right-unique (carry .right) (fresh-right newer (w .newer-accepted) k (w .first) (w .last)))
-
   no-more : judge newer k (olderBound older k) .rounds ≤ judge newer k 0 .rounds
   unfolding judge roundsOf
   no-more = carry .no-more
@@ -56,7 +50,7 @@ module _ (older newer : Table) (k : ℕ) (w : Worsened older newer k) where
   carried = record {
     not-refused = judgeable-one newer k (olderBound older k) judgeable;
     right = right-of-newer;
-    same = same-verdict;
+    same = carried-verdict older newer (w .older-accepted) (w .newer-accepted) (w .alike) k (w .first) (w .last);
     rounds = rounds newer k (olderBound older k) judgeable;
     no-more = no-more;
   }

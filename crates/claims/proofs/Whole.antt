@@ -1,20 +1,19 @@
 -- A file that came whole: what refusals 1 to 4 leave of a file, and that such a file is what stands before its trailer and the
 -- trailer of that. Assumes nothing.
-use mathlib.Core.Path.{_≡_, refl, sym, ap, _∙_}
-use mathlib.Core.Bool.{Bool, true, false, not, _||_}
-use mathlib.Core.List.{List, [], _∷_, _++_, append-assoc}
+use mathlib.Core.Path.{_≡_, refl, sym}
+use mathlib.Core.Bool.{Bool, true, false, not}
+use mathlib.Core.List.{List, _++_}
 use Prim.Native.Nat.{ℕ, _+_, _-_, _^_, _≤_, _<_}
 use native.Mathlib.Omega.{arith}
 use lib.Dec.{ltb, eqb}
 use lib.ListN.{length, take, drop, take-append-drop, length-append, length-drop}
 use lib.Seq.{take-all, take-at, length-take-le, drop-append-add}
 use borrow.Author.Tests.{ltb-false, le-ltb, eqb-true, eq-eqb, not-false}
-use Rattle.rules.specs.declared.Refusal.{Refusal}
 use Rattle.rules.specs.Idioms.{number, bytes, part}
 use Rattle.rules.specs.File.{fileLength, coresIn, tasksIn, formIn, sumOf, runningSum, trailer, checkWhole}
 use Rattle.rules.specs.Refusals.{accepted, isAccepted, given, _orElse_}
 use Rattle.rules.proofs.Bytes.{Bytes, number-bytes}
-use Rattle.rules.proofs.Chain.{both-accepted, no-fault, second-decides}
+use Rattle.rules.proofs.Chain.{both-accepted, no-fault}
 use Rattle.claims.proofs.ByteLists.{part-join, part-known}
 use Rattle.claims.proofs.ByteSums.{sum-fits, running-fits}
 use Rattle.claims.proofs.Tests.{or-neither}
