@@ -1,6 +1,6 @@
 -- The two codes of a table file: a number in k bytes, and a task in a record. Assumes nothing.
 use mathlib.Core.Path.{_≡_, refl}
-use mathlib.Core.List.{List, _++_}
+use mathlib.Core.List.{List}
 use Prim.Native.Nat.{ℕ, _+_, _^_, _≤_, _<_}
 use native.Mathlib.Omega.{arith}
 use lib.ListN.{length}
@@ -24,8 +24,9 @@ record-length form i = refl
 record-again : (form : ℕ) (l : List ℕ) → Bytes l → length l ≡ recordSize form → recordBytes form (recordTask l) ≡ l
 unfolding recordSize recordBytes recordTask
 record-again form l b e =
-    rw (part-known l 0 1 b (omega arith), part-known l 1 8 b (omega arith), part-known l 9 8 b (omega arith), part-known l 17 8 b (omega arith), part-known l 25 4 b (omega arith), part-join l 0 1 8, part-join l 0 9 8, part-join l 0 17 8, part-join l 0 25 4)
-    (take-all 29 l (omega arith))
+    let known : (at k : ℕ) → at + k ≤ 29 → bytes k (number (part l at k)) ≡ part l at k = λ at k h. part-known l at k b (omega arith) in
+    rw (known 0 1 (omega arith), known 1 8 (omega arith), known 9 8 (omega arith), known 17 8 (omega arith), known 25 4 (omega arith))
+    (rw (part-join l 0 1 8, part-join l 0 9 8, part-join l 0 17 8, part-join l 0 25 4) (take-all 29 l (omega arith)))
 
 pub task-code : (form : ℕ) → Code (recordSize form) (recordBytes form) recordTask
 task-code form = record { sized = record-length form; again = record-again form }

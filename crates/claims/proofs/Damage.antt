@@ -1,15 +1,13 @@
 -- A file that was cut short, or in which one byte was altered, did not come whole. Assumes nothing.
 use mathlib.Core.Path.{_≡_, sym, ap, _∙_}
 use mathlib.Core.Logic.{_≢_}
-use mathlib.Core.Bool.{true}
 use mathlib.Core.List.{List, _++_}
-use Prim.Native.Nat.{ℕ, _+_, _-_, _≤_, _<_}
+use Prim.Native.Nat.{ℕ, _-_, _≤_, _<_}
 use native.Mathlib.Decide.{decLt}
 use native.Mathlib.Omega.{arith}
-use lib.ListN.{length, take, drop, getD, set, length-set}
+use lib.ListN.{length, take, getD, set, length-set}
 use lib.Seq.{length-take-le, getD-take, take-set-le, take-set-lt, drop-set-lt, getD-set-same}
-use Rattle.rules.specs.Idioms.{number, part}
-use Rattle.rules.specs.File.{fileLength, sumOf, trailer}
+use Rattle.rules.specs.File.{trailer}
 use Rattle.rules.proofs.Bytes.{Bytes}
 use Rattle.claims.proofs.ByteLists.{bytes-set}
 use Rattle.claims.proofs.ByteSums.{sum-set}
@@ -41,8 +39,9 @@ module _ {s : List ℕ} (i b : ℕ) (i-in : i < length s) (other : b ≢ getD s 
   not-in-trailer : length s - 12 ≤ i → Bytes s → b < 256 → ⊥
   not-in-trailer h bytes byte =
       let kept : before (set s i b) ≡ before s = rw same-length (take-set-le (length s - 12) s i b h) in
-      let same : set s i b ≡ s =
-        before-and-trailer (bytes-set i bytes byte) c ∙ ap (λ (l : List ℕ). l ++ trailer l) kept ∙ sym (before-and-trailer bytes w) in
+      let new = before-and-trailer (bytes-set i bytes byte) c in
+      let old = before-and-trailer bytes w in
+      let same : set s i b ≡ s = new ∙ ap (λ (l : List ℕ). l ++ trailer l) kept ∙ sym old in
       other (sym (getD-set-same s i b 0 i-in) ∙ ap (λ (l : List ℕ). getD l i 0) same)
 
   pub not-altered : Bytes s → b < 256 → ⊥

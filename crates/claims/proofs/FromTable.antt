@@ -1,22 +1,19 @@
 -- The file that is written for an accepted table is whole, and the table that is read from it is that table, cleared. Assumes nothing.
-use mathlib.Core.Path.{_≡_, refl, sym, ap, _∙_}
-use mathlib.Core.Bool.{true}
-use mathlib.Core.List.{List, [], _∷_, _++_, map, append-assoc}
-use Prim.Native.Nat.{ℕ, _+_, _*_, _-_, _^_, _≤_, _<_}
+use mathlib.Core.Path.{_≡_, refl}
+use mathlib.Core.List.{_++_, map}
+use Prim.Native.Nat.{_+_, _*_, _≤_}
 use native.Mathlib.Omega.{arith}
-use lib.ListN.{length, take, drop, getD, length-append}
-use lib.Seq.{length-take-le, getD-take, take-at, drop-at, drop-drop, drop-append-add}
+use lib.ListN.{length, take, drop, length-append}
+use lib.Seq.{take-all, drop-at, drop-drop}
 use Rattle.rules.specs.declared.Table.{Table}
-use Rattle.rules.specs.Idioms.{from, below, upTo, filled, number, bytes, part}
+use Rattle.rules.specs.Idioms.{below, upTo, filled, number, bytes, part}
 use Rattle.rules.specs.Tasks.{noTask, tasksOf}
-use Rattle.rules.specs.File.{setsAt, recordsAt, recordSize, recordAt, fileLength, recordBytes, recordTask, sumOf, runningSum, trailer, body, encode, coresIn, tasksIn, formIn, recordIn, decode}
-use Rattle.rules.specs.Refusals.{isAccepted, checkTable}
+use Rattle.rules.specs.File.{setsAt, recordsAt, recordSize, recordAt, fileLength, recordBytes, recordTask, trailer, body, encode, recordIn, decode}
 use Rattle.rules.proofs.Accepted.{sound}
-use Rattle.rules.proofs.Bytes.{Bytes, none, more, bytes-length, bytes-are, number-bytes}
+use Rattle.rules.proofs.Bytes.{Bytes, none, more, bytes-are, number-bytes}
 use Rattle.claims.specs.Files.{AcceptedTable, Shape, cleared}
 use Rattle.claims.proofs.ByteLists.{bytes-append, bytes-joined}
 use Rattle.claims.proofs.Rows.{written-length, read-back}
-use Rattle.claims.proofs.ByteSums.{sum-fits, running-fits}
 use Rattle.claims.proofs.Codes.{number-code, task-code, record-bytes, task-known}
 use Rattle.claims.proofs.Whole.{Whole, trailer-length, trailed-whole}
 use Rattle.claims.proofs.Places.{header, figureBytes, setBytes, taskBytes, body-parts, encode-parts, figure-ladder, set-ladder, record-ladder, sets-after-figures, records-after-sets, trailer-after-records}
@@ -25,11 +22,14 @@ use Rattle.claims.proofs.Widths.{figure-fits, set-fits, task-fits}
 module _ {t : Table} (shape : Shape t) (passed : AcceptedTable t) where
   -- ---- the lengths of its parts
 
-  sets-used : length (take (t .cores) (t .sets)) ≡ t .cores
-  sets-used = length-take-le (t .cores) (t .sets) (omega (arith, sound t passed .cores-in, shape .sets))
+  all-figures : take 15 (t .timing) ≡ t .timing
+  all-figures = take-all 15 (t .timing) (omega (arith, shape .figures))
 
-  tasks-used : length (tasksOf t) ≡ t .tasks
-  tasks-used = length-take-le (t .tasks) (t .task) (omega (arith, sound t passed .tasks-in, shape .tasks))
+  sets-fit : t .cores ≤ length (t .sets)
+  sets-fit = omega (arith, sound t passed .cores-in, shape .sets)
+
+  tasks-fit : t .tasks ≤ length (t .task)
+  tasks-fit = omega (arith, sound t passed .tasks-in, shape .tasks)
 
   header-length : length (header t) ≡ 4
   unfolding header
@@ -37,15 +37,15 @@ module _ {t : Table} (shape : Shape t) (passed : AcceptedTable t) where
 
   figures-length : length (figureBytes t) ≡ 30
   unfolding figureBytes
-  figures-length = omega (arith, written-length (number-code 2) (t .timing), shape .figures)
+  figures-length = rw all-figures at (written-length (number-code 2) 15 (t .timing) (omega (arith, shape .figures)))
 
   sets-length : length (setBytes t) ≡ 2 * t .cores
   unfolding setBytes
-  sets-length = omega (arith, written-length (number-code 2) (take (t .cores) (t .sets)), sets-used)
+  sets-length = written-length (number-code 2) (t .cores) (t .sets) sets-fit
 
   tasks-length : length (taskBytes t) ≡ recordSize (t .fourth) * t .tasks
   unfolding taskBytes
-  tasks-length = rw tasks-used at (written-length (task-code (t .fourth)) (tasksOf t))
+  tasks-length = written-length (task-code (t .fourth)) (t .tasks) (t .task) tasks-fit
 
   body-length : length (body t) ≡ recordsAt (t .fourth) (t .cores) + recordSize (t .fourth) * t .tasks
   body-length =
@@ -57,7 +57,7 @@ module _ {t : Table} (shape : Shape t) (passed : AcceptedTable t) where
 
   -- ---- it is whole
 
-  pub body-small : length (body t) ≤ 978
+  body-small : length (body t) ≤ 978
   unfolding recordsAt setsAt recordSize
   body-small = omega (arith, body-length, sound t passed .cores-in, sound t passed .tasks-in)
 
@@ -70,7 +70,7 @@ module _ {t : Table} (shape : Shape t) (passed : AcceptedTable t) where
       (more {b = t .partitions} (omega (arith, facts .partitions-in))
       (more {b = t .tasks} (omega (arith, facts .tasks-in)) (more {b = t .fourth} (omega arith) none)))
 
-  pub body-are : Bytes (body t)
+  body-are : Bytes (body t)
   unfolding figureBytes setBytes taskBytes
   body-are =
       rw body-parts
@@ -78,9 +78,16 @@ module _ {t : Table} (shape : Shape t) (passed : AcceptedTable t) where
       (bytes-append (bytes-append header-are (bytes-joined (bytes 2) (bytes-are 2) (t .timing))) (bytes-joined (bytes 2) (bytes-are 2) (take (t .cores) (t .sets))))
       (bytes-joined (recordBytes (t .fourth)) (record-bytes (t .fourth)) (tasksOf t)))
 
+  pub file-small : length (encode t) ≤ 990
+  unfolding encode
+  file-small = rw (length-append (body t) (trailer (body t)), trailer-length (body t)) (omega (arith, body-small))
+
   pub encode-whole : Whole (encode t)
   unfolding encode body
-  encode-whole = trailed-whole body-are (omega (arith, body-length, records-after-sets (t .fourth) (t .cores), sets-after-figures (t .fourth))) (omega (arith, body-small)) encode-length
+  encode-whole =
+      let places = records-after-sets (t .fourth) (t .cores) in
+      let sets = sets-after-figures (t .fourth) in
+      trailed-whole body-are (omega (arith, body-length)) (omega (arith, body-small)) encode-length
 
   -- ---- what stands after each part
 
@@ -100,26 +107,22 @@ module _ {t : Table} (shape : Shape t) (passed : AcceptedTable t) where
   figures-back : map (λ k. number (part (encode t) (4 + 2 * k) 2)) (below 15) ≡ t .timing
   unfolding figureBytes
   figures-back =
-      rw (shape .figures) at
-        (read-back (number-code 2) (encode t) figure-ladder 0 (t .timing) _ after-header (λ k less. number-bytes 2 _ (figure-fits t passed k (omega (arith, shape .figures)))))
+      let rest = setBytes t ++ (taskBytes t ++ trailer (body t)) in
+      rw all-figures at
+      (read-back (number-code 2) (encode t) figure-ladder 0 15 (t .timing) rest (omega (arith, shape .figures)) (rw all-figures after-header)
+      (λ k less. number-bytes 2 _ (figure-fits t passed k less)))
 
   sets-back : map (λ k. number (part (encode t) (setsAt (t .fourth) + 2 * k) 2)) (below (t .cores)) ≡ take (t .cores) (t .sets)
   unfolding setBytes
-  sets-back = rw sets-used at (read-back (number-code 2) (encode t) (set-ladder (t .fourth)) 0 (take (t .cores) (t .sets)) _ after-figures known)
-    where
-      known : (k : ℕ) → k < length (take (t .cores) (t .sets)) → number (bytes 2 (getD (take (t .cores) (t .sets)) k 0)) ≡ getD (take (t .cores) (t .sets)) k 0
-      known k less =
-          let used : k < t .cores = omega (arith, sets-used) in
-          rw (getD-take (t .cores) (t .sets) k 0 used) (number-bytes 2 _ (set-fits t passed k used))
+  sets-back =
+      read-back (number-code 2) (encode t) (set-ladder (t .fourth)) 0 (t .cores) (t .sets) _ sets-fit after-figures
+      (λ k less. number-bytes 2 _ (set-fits t passed k less))
 
   tasks-back : map (λ k. recordTask (part (encode t) (recordAt (t .fourth) (t .cores) k) (recordSize (t .fourth)))) (upTo (t .tasks)) ≡ tasksOf t
   unfolding taskBytes
-  tasks-back = rw tasks-used at (read-back (task-code (t .fourth)) (encode t) (record-ladder (t .fourth) (t .cores)) noTask (tasksOf t) _ after-sets known)
-    where
-      known : (k : ℕ) → k < length (tasksOf t) → recordTask (recordBytes (t .fourth) (getD (tasksOf t) k noTask)) ≡ getD (tasksOf t) k noTask
-      known k less =
-          let used : k < t .tasks = omega (arith, tasks-used) in
-          rw (getD-take (t .tasks) (t .task) k noTask used) (task-known (t .fourth) _ (task-fits t passed k used))
+  tasks-back =
+      read-back (task-code (t .fourth)) (encode t) (record-ladder (t .fourth) (t .cores)) noTask (t .tasks) (t .task) _ tasks-fit after-sets
+      (λ k less. task-known (t .fourth) _ (task-fits t passed k less))
 
   pub read-again : decode (encode t) ≡ cleared t
   unfolding decode recordIn encode body cleared

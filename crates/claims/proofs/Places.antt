@@ -1,11 +1,12 @@
 -- The four parts of a table's bytes before the trailer, and the places of the rows in them. Assumes nothing.
 use mathlib.Core.Path.{_≡_, refl, ap, _∙_}
 use mathlib.Core.List.{List, [], _∷_, _++_, map, append-assoc}
-use Prim.Native.Nat.{ℕ, suc, _+_, _*_, _-_, _≤_}
+use Prim.Native.Nat.{ℕ, suc, _+_, _*_, _-_}
 use native.Mathlib.Omega.{arith}
 use lib.ListN.{take}
+use lib.Seq.{take-add}
 use Rattle.rules.specs.declared.Table.{Table}
-use Rattle.rules.specs.Idioms.{joined, bytes}
+use Rattle.rules.specs.Idioms.{joined, bytes, part}
 use Rattle.rules.specs.Tasks.{tasksOf}
 use Rattle.rules.specs.File.{setsAt, recordsAt, recordSize, recordAt, fileLength, recordBytes, trailer, body, encode}
 use Rattle.claims.proofs.Rows.{Ladder}
@@ -59,3 +60,9 @@ record-ladder form cores = record {
 pub trailer-after-records : (form cores tasks : ℕ) → fileLength form cores tasks ≡ recordsAt form cores + recordSize form * tasks + 12
 unfolding fileLength
 trailer-after-records form cores tasks = refl
+
+-- the parts of a file, one after the other
+pub parts-joined : (form cores n : ℕ) (s : List ℕ)
+    → take 4 s ++ part s 4 30 ++ part s (setsAt form) (2 * cores) ++ part s (recordsAt form cores) n ≡ take (recordsAt form cores + n) s
+unfolding recordsAt setsAt
+parts-joined form cores n s = rw (take-add (34 + 2 * cores) n s, take-add 34 (2 * cores) s, take-add 4 30 s)

@@ -1,6 +1,6 @@
 -- Rows: a list cut into parts of one size. Each row is the code of a value; what is written row by row is read back row by row,
 -- and what is read row by row is written back. Assumes nothing.
-use mathlib.Core.Path.{_≡_, refl, sym, ap, ap₂, _∙_}
+use mathlib.Core.Path.{_≡_, refl, ap₂}
 use mathlib.Core.List.{List, [], _∷_, _++_, map, append-assoc}
 use Prim.Native.Nat.{ℕ, zero, suc, _+_, _*_, _≤_, _<_}
 use native.Mathlib.Omega.{arith}
@@ -28,15 +28,19 @@ pub record Code {A : Type 0} (w : ℕ) (enc : A → List ℕ) (dec : List ℕ �
   pub again : (l : List ℕ) → Bytes l → length l ≡ w → enc (dec l) ≡ l
 
 module _ {A : Type 0} {w : ℕ} {enc : A → List ℕ} {dec : List ℕ → A} (code : Code w enc dec) where
-  pub written-length : (l : List A) → length (joined (map enc l)) ≡ w * length l
-  written-length [] = omega arith
-  written-length (x ∷ l) = rw (length-append (enc x) (joined (map enc l)), code .sized x, written-length l) (omega arith)
+  joined-length : (l : List A) → length (joined (map enc l)) ≡ w * length l
+  joined-length [] = omega arith
+  joined-length (x ∷ l) = rw (length-append (enc x) (joined (map enc l)), code .sized x, joined-length l) (omega arith)
+
+  pub written-length : (n : ℕ) (l : List A) → n ≤ length l → length (joined (map enc (take n l))) ≡ w * n
+  written-length n l fits = rw (length-take-le n l fits) at (joined-length (take n l))
 
   written-rows : (l : List A) (q : List ℕ) → rows w (length l) (joined (map enc l) ++ q) ≡ map enc l
   unfolding rows
   written-rows [] q = refl
   written-rows (x ∷ l) q =
-      rw (append-assoc, take-at (enc x) (joined (map enc l) ++ q) w (code .sized x), drop-at (enc x) (joined (map enc l) ++ q) w (code .sized x), written-rows l q)
+      let rest = joined (map enc l) ++ q in
+      rw (append-assoc, take-at (enc x) rest w (code .sized x), drop-at (enc x) rest w (code .sized x), written-rows l q)
 
   rows-again : (n : ℕ) {l : List ℕ} → Bytes l → w * n ≤ length l → map enc (map dec (rows w n l)) ≡ rows w n l
   unfolding rows
@@ -47,10 +51,11 @@ module _ {A : Type 0} {w : ℕ} {enc : A → List ℕ} {dec : List ℕ → A} (c
       (code .again (take w l) (bytes-take w b) (length-take-le w l (omega arith)))
       (rows-again n (bytes-drop w b) (rw (length-drop w l) (omega arith)))
 
-  values-again : (d : A) (l : List A) → ((k : ℕ) → k < length l → dec (enc (getD l k d)) ≡ getD l k d) → map dec (map enc l) ≡ l
-  values-again d [] h = refl
-  values-again d (x ∷ l) h =
-      ap₂ {C = List A} (λ (y : A) (ys : List A). y ∷ ys) (h 0 (omega arith)) (values-again d l (λ k less. h (suc k) (omega arith)))
+  values-again : (d : A) (n : ℕ) (l : List A) → ((k : ℕ) → k < n → dec (enc (getD l k d)) ≡ getD l k d) → map dec (map enc (take n l)) ≡ take n l
+  values-again d zero l h = refl
+  values-again d (suc n) [] h = refl
+  values-again d (suc n) (x ∷ l) h =
+      ap₂ {C = List A} (λ (y : A) (ys : List A). y ∷ ys) (h 0 (omega arith)) (values-again d n l (λ k less. h (suc k) (omega arith)))
 
 -- rows at places that start somewhere and go up by the rows' size
 pub record Ladder (w start lowest : ℕ) (at : ℕ → ℕ) : Type 0 where
@@ -73,7 +78,10 @@ module _ {A : Type 0} {w start lowest : ℕ} {enc : A → List ℕ} {dec : List 
       rw (rows-from-start n, rows-again code n (bytes-drop start b) (rw (length-drop start s) (omega arith)))
       (rows-joined w n (drop start s))
 
-  -- what was written row by row is read back, where each value is known by its code
-  pub read-back : (d : A) (l : List A) (q : List ℕ) → drop start s ≡ joined (map enc l) ++ q
-      → ((k : ℕ) → k < length l → dec (enc (getD l k d)) ≡ getD l k d) → map (λ j. dec (part s (at j) w)) (from lowest (length l)) ≡ l
-  read-back d l q e known = rw (rows-from-start (length l), e, written-rows code l q) (values-again code d l known)
+  -- what was written row by row, the first n values of a list, is read back where each of them is known by its code
+  pub read-back : (d : A) (n : ℕ) (l : List A) (q : List ℕ) → n ≤ length l → drop start s ≡ joined (map enc (take n l)) ++ q
+      → ((k : ℕ) → k < n → dec (enc (getD l k d)) ≡ getD l k d) → map (λ j. dec (part s (at j) w)) (from lowest n) ≡ take n l
+  read-back d n l q fits e known =
+      let read : rows w n (joined (map enc (take n l)) ++ q) ≡ map enc (take n l) =
+      rw (length-take-le n l fits) at (written-rows code (take n l) q) in
+      rw (rows-from-start n, e, read) (values-again code d n l known)

@@ -10,11 +10,9 @@ use lib.ListN.{getD}
 use borrow.Author.Tests.{leb-true, not-false}
 use Rattle.rules.specs.declared.Table.{Table}
 use Rattle.rules.specs.Idioms.{entry, within}
-use Rattle.rules.specs.Timing.{Row, ranges}
+use Rattle.rules.specs.Timing.{ranges}
 use Rattle.rules.specs.Tasks.{noTask}
-use Rattle.rules.specs.Cores.{setOf}
 use Rattle.rules.specs.Refusals.{isAccepted, given, _orElse_, first, countsFault, figureFault, relationFault, checkTiming, setFault, checkBoard, checkTasks, checkTable}
-use Rattle.rules.specs.Sound.{Sound}
 use Rattle.rules.proofs.Accepted.{sound}
 use Rattle.rules.proofs.Chain.{both-accepted}
 use Rattle.rules.proofs.First.{none-first}
