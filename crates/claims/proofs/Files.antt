@@ -14,13 +14,17 @@ use Rattle.rules.proofs.Bytes.{Bytes}
 use Rattle.rules.proofs.EveryRule.{every-rule}
 use Rattle.rules.proofs.Chain.{both-accepted}
 use Rattle.claims.specs.Files.{AcceptedFile, AcceptedTable, Damage, Shape, cleared, Return, ReturnInPlace, OneToOne, NotEmpty}
-use Rattle.claims.proofs.Tests.{fails}
 use Rattle.claims.proofs.Whole.{Whole, whole, came-whole}
 use Rattle.claims.proofs.Damage.{not-cut, not-altered}
 use Rattle.claims.proofs.FromFile.{already-cleared, shape-of-read, written-again}
 use Rattle.claims.proofs.FromTable.{file-small, encode-whole, read-again}
 use Rattle.claims.proofs.NoRefusal.{table-plain}
 use Rattle.claims.proofs.Cleared.{cleared-same}
+
+-- a test that cannot pass fails
+fails : (b : Bool) → (b ≡ true → ⊥) → b ≡ false
+fails true h = absurd (h refl)
+fails false h = refl
 
 -- ---- an accepted file
 

@@ -1,5 +1,4 @@
 -- The demands of specs/ hold. What the proofs on files stand on, in the order of its parts:
---     Tests      what a test of two parts says of each
 --     ByteLists  lists of bytes, and parts that are known by their number
 --     ByteSums   the two sums of a trailer
 --     Rows       values that are written in rows of one size, and read back
@@ -15,7 +14,6 @@
 --     Files      the demands on table files
 -- and beside them
 --     Refused    what a refused operation gives
-pub mod Tests
 pub mod ByteLists
 pub mod ByteSums
 pub mod Rows

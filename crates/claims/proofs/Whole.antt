@@ -14,9 +14,9 @@ use Rattle.rules.specs.File.{fileLength, coresIn, tasksIn, formIn, sumOf, runni
 use Rattle.rules.specs.Refusals.{accepted, isAccepted, given, _orElse_}
 use Rattle.rules.proofs.Bytes.{Bytes, number-bytes}
 use Rattle.rules.proofs.Chain.{both-accepted, no-fault}
+use Rattle.rules.proofs.Tests.{or-neither}
 use Rattle.claims.proofs.ByteLists.{part-join, part-known}
 use Rattle.claims.proofs.ByteSums.{sum-fits, running-fits}
-use Rattle.claims.proofs.Tests.{or-neither}
 
 pub record Whole (s : List ℕ) : Type 0 where
   pub long : 46 ≤ length s
