@@ -4,15 +4,15 @@ use Prim.Native.Nat.{ℕ, _≤_, _<_}
 use mathlib.Core.Path.{_≡_}
 use mathlib.Core.Logic.{_≢_}
 use mathlib.Core.Bool.{true, false}
-use mathlib.Core.List.{List, [], _++_}
-use lib.ListN.{length, take, drop, getD, set, replicate}
+use mathlib.Core.List.{List, _++_}
+use lib.ListN.{length, take, drop, getD, set}
 use Rattle.rules.specs.declared.Table.{Table}
 use Rattle.rules.specs.Idioms.{filled}
 use Rattle.rules.specs.Tasks.{noTask, tasksOf}
-use Rattle.rules.specs.Judgement.{misses}
 use Rattle.rules.specs.Refusals.{accepted, isAccepted, checkTable}
 use Rattle.rules.specs.File.{encode}
-use Rattle.rules.specs.Operations.{emptyTable, reading, checkView, viewing, writing, outAfter, judgeOne, judgeAll, rejudging}
+use Rattle.rules.specs.Operations.{reading, writing, outAfter}
+use Rattle.rules.specs.Figures.{listed}
 use Rattle.rules.proofs.Bytes.{Bytes}
 
 -- a file that reading accepts, and one that it refuses; a table that is accepted
@@ -52,6 +52,10 @@ cleared t = record {
 pub record Return : Type 0 where
   pub read-written : (t : Table) → Shape t → AcceptedTable t → reading (encode t) ≡ record { refusal = accepted; table = cleared t }
   pub written-read : (s : List ℕ) → Bytes s → AcceptedFile s → encode (reading s .table) ≡ s
+  -- "Places of a table beyond its counts are .. zero after reading"
+  pub unused-zero : (s : List ℕ) → cleared (reading s .table) ≡ reading s .table
+  -- so a read table can be written
+  pub shape-read : (s : List ℕ) → Shape (reading s .table)
 
 -- The same, by way of a lent buffer that is long enough. "Writing needs room for the whole file and answers its length; bytes after
 -- it stay."
@@ -60,6 +64,7 @@ pub record ReturnInPlace : Type 0 where
       → reading (take (writing t out .length) (outAfter t out)) ≡ record { refusal = accepted; table = cleared t }
   pub written-read : (s out : List ℕ) → Bytes s → AcceptedFile s → length s ≤ length out
       → outAfter (reading s .table) out ≡ s ++ drop (length s) out
+  pub room : (t : Table) → Shape t → AcceptedTable t → length (encode t) ≤ 990
   pub rest-stays : (t : Table) (out : List ℕ) → drop (writing t out .length) (outAfter t out) ≡ drop (writing t out .length) out
 
 -- A file is of one table, and a table of one file.
@@ -67,15 +72,7 @@ pub record OneToOne : Type 0 where
   pub one-table : (t u : Table) → Shape t → Shape u → AcceptedTable t → AcceptedTable u → encode t ≡ encode u → cleared t ≡ cleared u
   pub one-file : (s r : List ℕ) → Bytes s → Bytes r → AcceptedFile s → AcceptedFile r → reading s .table ≡ reading r .table → s ≡ r
 
--- "A refused read gives an all-zero table, a refused view an empty part, a refused judgement answers that are all misses in
--- 0 rounds, a refused writing the length 0. No lent byte changes."
-pub record RefusedGivesNothing : Type 0 where
-  pub read : (s : List ℕ) → RefusedFile s → reading s .table ≡ emptyTable
-  pub view : (s : List ℕ) (k : ℕ) → isAccepted (checkView s k) ≡ false → viewing s k ≡ []
-  pub one : (t : Table) (k start : ℕ) → isAccepted (judgeOne t k start .refusal) ≡ false → judgeOne t k start .answer ≡ misses 0
-  pub all : (t : Table) (starts : List ℕ) → isAccepted (judgeAll t starts .refusal) ≡ false
-      → judgeAll t starts .answers ≡ replicate 32 (misses 0)
-  pub again : (older newer : Table) → isAccepted (rejudging older newer .refusal) ≡ false
-      → (rejudging older newer .carried ≡ false) × (rejudging older newer .answers ≡ replicate 32 (misses 0))
-  pub written-length : (t : Table) (out : List ℕ) → isAccepted (writing t out .refusal) ≡ false → writing t out .length ≡ 0
-  pub lent-bytes : (t : Table) (out : List ℕ) → isAccepted (writing t out .refusal) ≡ false → outAfter t out ≡ out
+-- The demands speak of something: the table of the listed figures has the shape, and it is accepted.
+pub record NotEmpty : Type 0 where
+  pub shape : Shape listed
+  pub passed : AcceptedTable listed

@@ -1,1 +1,1 @@
-// Theory alone: see specs/ and proofs/.
+// Theorems alone: see specs/ and proofs/.
