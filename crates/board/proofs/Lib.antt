@@ -1,0 +1,3 @@
+pub mod Common
+pub mod Masks
+pub mod Linear

@@ -1,0 +1,3 @@
+-- What the crate's contracts cite beside the rules.
+--     Masks    cores as bits
+pub mod Masks
