@@ -4,3 +4,4 @@ pub mod Places
 pub mod Linear
 pub mod Weighed
 pub mod Requests
+pub mod Bounds

@@ -7,8 +7,9 @@ use native.Mathlib.Nat.{mul-add, mul-zero}
 use native.Mathlib.Omega.{arith}
 use Rattle.rules.specs.declared.Table.{Table}
 use Rattle.rules.specs.Idioms.{sumOver, those, upTo}
+use Rattle.rules.specs.Tasks.{arrivals}
 use Rattle.rules.specs.Cores.{isNear, isFar, near, far}
-use Rattle.rules.specs.Dram.{crossing, conflict}
+use Rattle.rules.specs.Dram.{crossing, conflict, jinter, JD}
 use Rattle.rules.proofs.Weights.{weight}
 
 -- ---- sums
@@ -94,3 +95,7 @@ module _ (t : Table) (p : ℕ) (a : ℕ → ℕ) where
         over-near t p (λ q. a q * conflict t .0),
         third,
       )
+
+pub job-by-weights : (t : Table) (p x : ℕ) → JD t p x ≡ sumOver (upTo (t .cores)) (λ q. arrivals t q x * weight t p q)
+unfolding JD jinter
+job-by-weights t p x = sym (linear t p (λ q. arrivals t q x))

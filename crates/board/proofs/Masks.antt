@@ -34,7 +34,7 @@ both true false m = omega arith
 both false c m = omega arith
 
 module _ (q : ℕ) (l : List ℕ) where
-  counted : (b : Bool) → asBit b + length l ≡ length (cond b (q ∷ l) l)
+  pub counted : (b : Bool) → asBit b + length l ≡ length (cond b (q ∷ l) l)
   counted true = omega arith
   counted false = omega arith
 

@@ -9,7 +9,7 @@ use Rattle.rules.specs.Idioms.{from, upTo, entry, filled}
 use Rattle.rules.proofs.Fill.{fill-step}
 use Rattle.rules.proofs.Sums.{upTo-next}
 
-from-length : (n a : ℕ) → length (from a n) ≡ n
+pub from-length : (n a : ℕ) → length (from a n) ≡ n
 unfolding from
 from-length zero a = refl
 from-length (suc n) a = ap suc (from-length n (a + 1))

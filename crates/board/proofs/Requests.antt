@@ -3,7 +3,7 @@ use mathlib.Core.Path.{_≡_, refl}
 use mathlib.Core.Bool.{cond}
 use mathlib.Core.List.{List, [], _∷_, map}
 use Prim.Native.Nat.{ℕ, _+_, _*_, _^_, _≤_, _<_}
-use native.Mathlib.Nat.{one-mul, mul-le-mul}
+use native.Mathlib.Nat.{one-mul, mul-le-mul, mul-le-mul-right}
 use native.Mathlib.Omega.{arith}
 use borrow.Author.Tests.{eq-eqb, ne-eqb}
 use lib.Count.{ones}
@@ -59,11 +59,11 @@ module _ {p nears : ℕ} {fars : List ℕ} {f : Figures} {t : Table} (s : Shows 
   unfolding rowPart figuresOf
   row-some some low high = rw (← none-near, ne-eqb nears 0 some, far-count low high, s .figures-are)
 
-pub row-high : {f : Figures} → FiguresBounded f → (n : ℕ) → n ≤ 8
-    → (f .window * f .readwrite .0 ≤ 10 ^ 9) × (f .run .0 + f .window * f .readwrite .0 * n + f .reopen .0 ≤ 6 * 10 ^ 9)
-row-high {f} b n few =
+pub row-high : {f : Figures} → FiguresBounded f → (n : ℕ)
+    → (f .window * f .readwrite .0 ≤ 7 * 10 ^ 8) × (f .run .0 + f .window * f .readwrite .0 * n + f .reopen .0 ≤ 5 * 10 ^ 8 + 7 * 10 ^ 8 * n)
+row-high {f} b n =
     let each : f .window * f .readwrite .0 ≤ 512 * (262 * 5000) = mul-le-mul (b .window-high) (b .readwrite-high) in
-    let all : f .window * f .readwrite .0 * n ≤ 512 * (262 * 5000) * 8 = mul-le-mul each few in
+    let all : f .window * f .readwrite .0 * n ≤ 512 * (262 * 5000) * n = mul-le-mul-right n each in
     (omega arith, omega (arith, b .run-high, b .reopen-high))
 
 -- ---- both costs, as a loop over the cores gathers them: q cores have been weighed

@@ -11,7 +11,6 @@ ghost use Rattle.rules.proofs.Weights.{weight};
 ghost use Rattle.timing.specs.Figures.{FiguresBounded};
 ghost use Rattle.board.specs.Masks.{asBit, mask, besides, farMasks};
 ghost use Rattle.board.specs.Costs.{costsOf, noCosts, rowPart, Shows};
-
 use rules::Table;
 use timing::Figures;
 
@@ -103,7 +102,7 @@ fn weigh(near: u8, far: &[u8; 8], p: usize, q: usize, f: Figures) -> u64
 fn row_part(near: u8, far: &[u8; 8], p: usize, f: Figures) -> u64
     requires { ⌜ (1 ≤ p) × (p ≤ 8) ⌝ }
     requires { ⌜ FiguresBounded f ⌝ }
-    ensures { λ r. ⌜ r ≤ 6 * 10 ^ 9 ⌝ }
+    ensures { λ r. ⌜ r ≤ 7 * 10 ^ 9 ⌝ }
     ensures { λ r. ⌜ ((t : Table) → p ≤ t .cores → Shows p near (now (far .entry)) f t → r ≡ rowPart t p) ⌝ }
 {
     if near == 0 {

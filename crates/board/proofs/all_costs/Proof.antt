@@ -13,12 +13,6 @@ use Rattle.board.proofs.Places.{place-next}
 use Rattle.board.proofs.Weighed.{shows, small}
 use Rattle.board.proofs.all_costs.Statement.{statement}
 use Rattle.board.proofs.all_costs.Tie as tie
-use Rattle.board.proofs.all_costs.Reads as reads
-use Rattle.board.proofs.all_costs.Lts as lts
-use Rattle.board.proofs.costs.Reads as costs-reads
-use Rattle.board.proofs.far_sides.Reads as far-sides-reads
-use Rattle.board.proofs.side.Reads as side-reads
-use Rattle.timing.proofs.figures_of.Reads as figures-of-reads
 
 abbrev Inv-loop : tie.InvT-loop
 Inv-loop cores sets figures far all₀ p₀ all p =
@@ -44,10 +38,12 @@ costs-requires c κs =
 loop-again : tie.Need-loop-again Inv-loop μ-loop
 loop-again c =
     let side = c .before .before in
-    let l = side .before .before .before in
-    (search needs, λ t e s f.
-        rw (l .loop .inv .1 t e s f, c .costs .ensures t e (shows t (rw (e, s) (side .side .ensures)) (rw (e, s) (l .before .far-sides .ensures)) f))
-        (place-next noCosts (costsOf t) 8 (l .loop .p) (omega (arith, start (l .before) .pre .cores-in .high))))
+    let l = side .before .before .before in (
+      search needs,
+      λ t e s f.
+          rw (l .loop .inv .1 t e s f, c .costs .ensures t e (shows t (rw (e, s) (side .side .ensures)) (rw (e, s) (l .before .far-sides .ensures)) f))
+          (place-next noCosts (costsOf t) 8 (l .loop .p) (omega (arith, start (l .before) .pre .cores-in .high))),
+    )
 
 returns : tie.Need-returns Inv-loop μ-loop
 returns c =

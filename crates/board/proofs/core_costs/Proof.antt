@@ -4,12 +4,6 @@ use borrow.Author.Needs.{needs}
 use Rattle.board.proofs.Weighed.{shows, small}
 use Rattle.board.proofs.core_costs.Statement.{statement}
 use Rattle.board.proofs.core_costs.Tie as tie
-use Rattle.board.proofs.core_costs.Reads as reads
-use Rattle.board.proofs.core_costs.Lts as lts
-use Rattle.board.proofs.costs.Reads as costs-reads
-use Rattle.board.proofs.far_sides.Reads as far-sides-reads
-use Rattle.board.proofs.side.Reads as side-reads
-use Rattle.timing.proofs.figures_of.Reads as figures-of-reads
 
 module _ (c : tie.After-figures-of) where
   abbrev start : tie.Start

@@ -8,14 +8,10 @@ use Rattle.board.specs.Costs.{Shows}
 use Rattle.board.proofs.Requests.{SoFar, so-far-none, so-far-next, so-far-all}
 use Rattle.board.proofs.costs.Statement.{statement}
 use Rattle.board.proofs.costs.Tie as tie
-use Rattle.board.proofs.costs.Reads as reads
-use Rattle.board.proofs.costs.Lts as lts
-use Rattle.board.proofs.row_part.Reads as row-part-reads
-use Rattle.board.proofs.weigh.Reads as weigh-reads
 
 abbrev Inv-loop : tie.InvT-loop
 Inv-loop cores near far p f request₀ weight₀ q₀ request weight q =
-    (q ≤ cores) × (request ≤ 6 * 10 ^ 9 + q * (3 * 10 ^ 7)) × ((t : Table) → t .cores ≡ cores → Shows p near far f t → SoFar t p q request weight)
+    (q ≤ cores) × (request ≤ 7 * 10 ^ 9 + q * (3 * 10 ^ 7)) × ((t : Table) → t .cores ≡ cores → Shows p near far f t → SoFar t p q request weight)
 
 abbrev μ-loop : tie.MeasureT-loop
 μ-loop cores near far p f request₀ weight₀ q₀ request weight q = cores - q
@@ -24,9 +20,12 @@ loop-holds : tie.Need-loop-holds Inv-loop μ-loop
 loop-holds c = (search needs, search needs, λ t e s. so-far-none t _ _ (c .row-part .ensures .1 t (omega arith) s))
 
 loop-again : tie.Need-loop-again Inv-loop μ-loop
-loop-again c =
-    (search needs, omega (arith, c .weigh .ensures .0), λ t e s.
-        so-far-next t _ (c .before .before .loop .inv .2 t e s) (omega arith) (c .weigh .ensures .1 t (omega arith) (omega arith) s))
+loop-again c = (
+  search needs,
+  omega (arith, c .weigh .ensures .0),
+  λ t e s.
+      so-far-next t _ (c .before .before .loop .inv .2 t e s) (omega arith) (c .weigh .ensures .1 t (omega arith) (omega arith) s),
+)
 
 returns : tie.Need-returns Inv-loop μ-loop
 returns c = λ t e s. so-far-all t _ (c .before .loop .inv .2 t e s) (omega arith)

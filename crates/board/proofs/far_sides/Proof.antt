@@ -10,9 +10,6 @@ use Rattle.board.specs.Masks.{mask, besides, farMasks}
 use Rattle.board.proofs.Places.{place-next}
 use Rattle.board.proofs.far_sides.Statement.{statement}
 use Rattle.board.proofs.far_sides.Tie as tie
-use Rattle.board.proofs.far_sides.Reads as reads
-use Rattle.board.proofs.far_sides.Lts as lts
-use Rattle.board.proofs.side.Reads as side-reads
 
 abbrev Inv-loop : tie.InvT-loop
 Inv-loop cores sets far₀ p₀ far p = (p ≤ cores) × (far ≡ filled 8 0 (map (λ q. mask (besides false sets q) cores) (upTo p)))

@@ -2,6 +2,7 @@
 use Prim.Native.Nat.{_+_, _*_, _^_, _≤_}
 use borrow.Author.Needs.{needs}
 use native.Mathlib.Omega.{arith}
+use Rattle.timing.specs.declared.Figures.{Figures}
 use Rattle.board.proofs.Requests.{row-none, row-some, row-high}
 use Rattle.board.proofs.row_part.Statement.{statement}
 use Rattle.board.proofs.row_part.Tie as tie
@@ -10,9 +11,11 @@ module _ (c : tie.After-count) where
   abbrev start : tie.Start
   start = c .before .before .before
 
-  high : (start .args .f .window * start .args .f .readwrite .0 ≤ 10 ^ 9)
-      × (start .args .f .run .0 + start .args .f .window * start .args .f .readwrite .0 * c .count .result + start .args .f .reopen .0 ≤ 6 * 10 ^ 9)
-  high = row-high (start .pre .1) (c .count .result) (omega arith)
+  abbrev f : Figures
+  f = start .args .f
+
+  high : (f .window * f .readwrite .0 ≤ 7 * 10 ^ 8) × (f .run .0 + f .window * f .readwrite .0 * c .count .result + f .reopen .0 ≤ 7 * 10 ^ 9)
+  high = let h = row-high (start .pre .1) (c .count .result) in (h .0, omega arith)
 
 returns-2 : tie.Need-returns-2
 returns-2 c =

@@ -8,9 +8,6 @@ use Rattle.board.specs.Masks.{maskFrom, besides}
 use Rattle.board.proofs.Masks.{mask-step, mask-room}
 use Rattle.board.proofs.side.Statement.{statement}
 use Rattle.board.proofs.side.Tie as tie
-use Rattle.board.proofs.side.Reads as reads
-use Rattle.board.proofs.side.Lts as lts
-use Rattle.board.proofs.beside.Reads as beside-reads
 
 abbrev Inv-loop : tie.InvT-loop
 Inv-loop cores sets p near bits₀ q₀ bits q = (q ≤ cores) × (bits ≡ maskFrom (besides near sets p) (q + 1) (cores - q))

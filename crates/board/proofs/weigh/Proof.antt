@@ -5,10 +5,6 @@ use native.Mathlib.Omega.{arith}
 use Rattle.board.proofs.Weighed.{weighed, charge-high}
 use Rattle.board.proofs.weigh.Statement.{statement}
 use Rattle.board.proofs.weigh.Tie as tie
-use Rattle.board.proofs.weigh.Reads as reads
-use Rattle.board.proofs.weigh.Lts as lts
-use Rattle.board.proofs.bit.Reads as bit-reads
-use Rattle.board.proofs.count.Reads as count-reads
 
 module _ (c : tie.After-bit2) where
   abbrev start : tie.Start
@@ -23,10 +19,12 @@ module _ (c : tie.After-bit2) where
 returns : tie.Need-returns
 returns c =
     let b = c .before .before in
-    let a = start b .args in
-    (high b, λ t highp highq s.
-        rw (b .before .before .before .bit .ensures .0, b .before .count .ensures .0, b .bit2 .ensures .0)
-        (weighed s (a .q) (omega arith) highp (omega arith) highq))
+    let a = start b .args in (
+      high b,
+      λ t highp highq s.
+          rw (b .before .before .before .bit .ensures .0, b .before .count .ensures .0, b .bit2 .ensures .0)
+          (weighed s (a .q) (omega arith) highp (omega arith) highq),
+    )
 
 pub weigh-spec : {M : Type 1} → statement M
 weigh-spec =
