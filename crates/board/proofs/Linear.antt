@@ -1,5 +1,5 @@
 -- A job's delay is what each request of each core costs it, summed: for any number of requests a q of core q. Assumes nothing.
-use mathlib.Core.Path.{_≡_, refl, sym, _∙_}
+use mathlib.Core.Path.{_≡_, refl, sym, ap, fun-ext, _∙_}
 use mathlib.Core.Bool.{Bool, true, false, cond}
 use mathlib.Core.List.{List, [], _∷_}
 use Prim.Native.Nat.{ℕ, _+_, _*_}
@@ -16,8 +16,7 @@ use Rattle.rules.proofs.Weights.{weight}
 
 module _ {A : Type 0} where
   pub sum-same : (f g : A → ℕ) → ((x : A) → f x ≡ g x) → (l : List A) → sumOver l f ≡ sumOver l g
-  sum-same f g h [] = refl
-  sum-same f g h (x ∷ l) = omega (arith, h x, sum-same f g h l)
+  sum-same f g h l = ap (sumOver l) (fun-ext h)
 
   pub sum-add : (f g : A → ℕ) (l : List A) → sumOver l (λ x. f x + g x) ≡ sumOver l f + sumOver l g
   sum-add f g [] = refl
