@@ -9,6 +9,4 @@ unfolding reopen
 returns c = cc
 
 pub reopen-spec : {M : Type 1} → statement M
-reopen-spec =
-    tie.close
-    (tie.spec (λ c. search needs) (λ c κs. search needs) (λ c. search needs) (λ c κs. search needs) (λ c. search needs) returns)
+reopen-spec = tie.close (tie.spec (λ c κs. search needs) (λ c κs. search needs) (λ c. search needs) returns)
