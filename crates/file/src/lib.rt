@@ -4,8 +4,9 @@ ghost use mathlib.Core.Path.{_≡_};
 ghost use Prim.Native.Nat.{ℕ, _+_, _-_, _*_, _<_, _≤_};
 ghost use lib.ListN.{length, take, drop};
 ghost use Rattle.rules.specs.Idioms.{number, part};
-ghost use Rattle.rules.specs.File.{checkWhole};
-ghost use Rattle.file.specs.Sums.{sumsOf};
+ghost use Rattle.rules.specs.Refusals.{refused};
+ghost use Rattle.rules.specs.File.{fileLength, checkWhole};
+ghost use Rattle.file.specs.Sums.{sumsOf, checkTrailer};
 
 use rules::Refusal;
 
@@ -53,4 +54,62 @@ fn sums(s: &[u8]) -> Totals
         sum: sum,
         running: running,
     }
+}
+
+fn size(x: u8) -> usize
+    ensures { λ r. ⌜ r ≡ x ⌝ }
+    ensures { λ r. ⌜ r < 256 ⌝ }
+{
+    x as usize
+}
+
+fn no_place(number: u8) -> Refusal
+    ensures { λ r. ⌜ r ≡ refused number 0 ⌝ }
+{
+    Refusal {
+        number: number,
+        place: 0,
+    }
+}
+
+// "46 + 2·cores + 29·tasks"
+fn file_length(form: u8, cores: u8, tasks: u8) -> usize
+    ensures { λ r. ⌜ r ≡ fileLength form cores tasks ⌝ }
+    ensures { λ r. ⌜ r ≤ 7951 ⌝ }
+{
+    46 + 2 * size(cores) + 29 * size(tasks)
+}
+
+// 3 and 4, of a file that has the right length.
+fn trailer(file: &[u8]) -> Refusal
+    requires { ⌜ 46 ≤ length (now file) ⌝ }
+    requires { ⌜ length (now file) ≤ 7951 ⌝ }
+    ensures { λ r. ⌜ r ≡ checkTrailer (now (file .entry)) ⌝ }
+{
+    let n = file.len();
+    let e = n - 12;
+    if le32(file, e) as usize != e {
+        return no_place(3);
+    }
+    let total = sums(&file[..e]);
+    if le32(file, n - 8) as u64 != total.sum {
+        return no_place(4);
+    }
+    if le32(file, n - 4) as u64 != total.running {
+        return no_place(4);
+    }
+    no_place(0)
+}
+
+// 1 to 4: did the file come whole?
+pub fn whole(file: &[u8]) -> Refusal
+    ensures { λ r. ⌜ r ≡ checkWhole (now (file .entry)) ⌝ }
+{
+    if file.len() < 46 {
+        return no_place(1);
+    }
+    if file.len() != file_length(file[3], file[0], file[2]) {
+        return no_place(2);
+    }
+    trailer(file)
 }
