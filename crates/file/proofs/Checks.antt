@@ -1,5 +1,5 @@
 -- Refusals 1 to 4 one at a time: what each of the tests, in their order, makes of a file. Assumes nothing.
-use mathlib.Core.Path.{_≡_}
+use mathlib.Core.Path.{_≡_, refl}
 use mathlib.Core.List.{List}
 use Prim.Native.Nat.{ℕ, _+_, _*_, _-_, _<_, _≤_}
 use native.Mathlib.Omega.{arith}
@@ -7,12 +7,16 @@ use lib.ListN.{length, take}
 use borrow.Author.Tests.{lt-ltb, le-ltb, eq-eqb, ne-eqb}
 use Rattle.rules.specs.Idioms.{number, part}
 use Rattle.rules.specs.Refusals.{accepted, refused}
-use Rattle.rules.specs.File.{setsAt, recordsAt, recordSize, fileLength, coresIn, tasksIn, formIn, sumOf, runningSum, checkWhole}
+use Rattle.rules.specs.File.{setsAt, recordsAt, recordSize, recordAt, fileLength, coresIn, tasksIn, formIn, sumOf, runningSum, checkWhole}
 use Rattle.file.specs.Sums.{checkTrailer}
 
 pub length-is : (form cores tasks : ℕ) → fileLength form cores tasks ≡ 46 + 2 * cores + 29 * tasks
 unfolding fileLength recordsAt setsAt recordSize
 length-is form cores tasks = omega arith
+
+pub record-at-is : (form cores k : ℕ) → recordAt form cores k ≡ 34 + 2 * cores + 29 * (k - 1)
+unfolding recordAt recordsAt setsAt recordSize
+record-at-is form cores k = refl
 
 module _ (s : List ℕ) where
   pub too-short : length s < 46 → checkWhole s ≡ refused 1 0

@@ -3,12 +3,18 @@
 ghost use mathlib.Core.Path.{_≡_};
 ghost use Prim.Native.Nat.{ℕ, _+_, _-_, _*_, _<_, _≤_};
 ghost use lib.ListN.{length, take, drop};
-ghost use Rattle.rules.specs.Idioms.{number, part};
+ghost use lib.Seq.{sets};
+ghost use Rattle.rules.specs.Idioms.{number, part, filled};
+ghost use Rattle.rules.specs.Tasks.{noTask};
 ghost use Rattle.rules.specs.Refusals.{refused};
-ghost use Rattle.rules.specs.File.{fileLength, checkWhole};
+ghost use Rattle.rules.specs.File.{fileLength, recordAt, recordTask, coresIn, checkWhole, decode};
 ghost use Rattle.file.specs.Sums.{sumsOf, checkTrailer};
+ghost use Rattle.file.specs.Places.{figuresIn, tasksTo};
 
+use rules::Picos;
 use rules::Refusal;
+use rules::Table;
+use rules::Task;
 
 // The numbers that two, four and eight bytes give.
 fn le16(s: &[u8], at: usize) -> u16
@@ -112,4 +118,77 @@ pub fn whole(file: &[u8]) -> Refusal
         return no_place(2);
     }
     trailer(file)
+}
+
+// ---- the figures of a whole file
+
+// A record's 29 bytes, handed over as a part of the file.
+fn task_in(bytes: &[u8]) -> Task
+    requires { ⌜ length (now bytes) ≡ 29 ⌝ }
+    ensures { λ r. ⌜ r ≡ recordTask (now (bytes .entry)) ⌝ }
+{
+    let exec = le64(bytes, 1);
+    let period = le64(bytes, 9);
+    let deadline = le64(bytes, 17);
+    Task {
+        core: bytes[0],
+        exec: Picos(exec),
+        period: Picos(period),
+        deadline: Picos(deadline),
+        requests: le32(bytes, 25),
+    }
+}
+
+// "34 + 2 times cores + 29 times (k − 1)"
+fn record_at(form: u8, cores: u8, k: usize) -> usize
+    requires { ⌜ 1 ≤ k ⌝ }
+    requires { ⌜ k ≤ 255 ⌝ }
+    ensures { λ r. ⌜ r ≡ recordAt form cores k ⌝ }
+    ensures { λ r. ⌜ r ≡ 34 + 2 * cores + 29 * (k - 1) ⌝ }
+{
+    34 + 2 * size(cores) + 29 * (k - 1)
+}
+
+// The n figures of two bytes from a place on.
+fn figures(file: &[u8], at: usize, n: usize, into: &mut [u16])
+    requires { ⌜ n ≤ length (now into) ⌝ }
+    requires { ⌜ n ≤ 255 ⌝ }
+    requires { ⌜ at + 2 * n ≤ length (now file) ⌝ }
+    ensures { λ _. ⌜ now (into .exit) ≡ sets (now (into .entry)) 0 (figuresIn (now (file .entry)) at n) ⌝ }
+{
+    let mut i: usize = 0;
+    while i < n {
+        into[i] = le16(file, at + 2 * i);
+        i += 1;
+    }
+}
+
+fn no_task() -> Task
+    ensures { λ r. ⌜ r ≡ noTask ⌝ }
+{
+    Task {
+        core: 0,
+        exec: Picos(0),
+        period: Picos(0),
+        deadline: Picos(0),
+        requests: 0,
+    }
+}
+
+fn tasks(file: &[u8], n: usize) -> [Task; 32]
+    requires { ⌜ n ≤ 32 ⌝ }
+    requires { ⌜ 34 + 2 * coresIn (now file) + 29 * n ≤ length (now file) ⌝ }
+    ensures { λ r. ⌜ r ≡ filled 32 noTask (tasksTo (now (file .entry)) n) ⌝ }
+{
+    let none = no_task();
+    let mut all = [none; 32];
+    let mut i: usize = 0;
+    while i < n {
+        let a = record_at(file[3], file[0], i + 1);
+        let e = a + 29;
+        let task = task_in(&file[a..e]);
+        all[i] = task;
+        i += 1;
+    }
+    all
 }

@@ -1,0 +1,64 @@
+-- Runs of stores, and runs of numbers mapped: one more at the end. Assumes nothing.
+use mathlib.Core.Path.{_≡_, refl, ap, _∙_}
+use mathlib.Core.List.{List, [], _∷_, _++_, map}
+use Prim.Native.Nat.{ℕ, zero, suc, _+_, _-_, _≤_, _<_}
+use native.Mathlib.Omega.{arith}
+use native.Mathlib.Nat.{zero-add, sub-zero}
+use native.Mathlib.Numerals.{add-one}
+use lib.ListN.{length, length-map, length-replicate, set, drop, replicate}
+use lib.Seq.{sets, sets-eq}
+use Rattle.rules.specs.Idioms.{from, upTo, below, filled}
+use Rattle.rules.proofs.Sums.{upTo-next}
+
+pub length-from : (a n : ℕ) → length (from a n) ≡ n
+unfolding from
+length-from a zero = refl
+length-from a (suc n) = ap suc (length-from (a + 1) n)
+
+from-snoc : (a n : ℕ) → from a (suc n) ≡ from a n ++ ((a + n) ∷ [])
+unfolding from
+from-snoc a zero = let e : a ≡ a + 0 = omega arith in rw (← e)
+from-snoc a (suc n) = let e : a + 1 + n ≡ a + suc n = omega arith in ap {B = List ℕ} (λ l. a ∷ l) (rw (← e) (from-snoc (a + 1) n))
+
+below-next : (n : ℕ) → below (n + 1) ≡ below n ++ (n ∷ [])
+below-next n = rw (add-one, from-snoc, zero-add)
+
+module _ {A B : Type 0} (f : A → B) where
+  pub map-snoc : (xs : List A) (x : A) → map f (xs ++ (x ∷ [])) ≡ map f xs ++ (f x ∷ [])
+  map-snoc [] x = refl
+  map-snoc (y ∷ xs) x = ap {B = List B} (λ l. f y ∷ l) (map-snoc xs x)
+
+module _ {B : Type 0} (f : ℕ → B) (n : ℕ) where
+  pub map-below-next : map f (below (n + 1)) ≡ map f (below n) ++ (f n ∷ [])
+  map-below-next = rw below-next (map-snoc f (below n) n)
+
+  pub map-upTo-next : map f (upTo (n + 1)) ≡ map f (upTo n) ++ (f (n + 1) ∷ [])
+  map-upTo-next = rw upTo-next (map-snoc f (upTo n) (n + 1))
+
+  pub length-map-below : length (map f (below n)) ≡ n
+  length-map-below = length-map (below n) f ∙ length-from 0 n
+
+  pub length-map-upTo : length (map f (upTo n)) ≡ n
+  length-map-upTo = length-map (upTo n) f ∙ length-from 1 n
+
+module _ {A : Type 0} where
+  -- a run of stores after another
+  pub sets-append : (vs ws l : List A) (i : ℕ) → sets (sets l i vs) (i + length vs) ws ≡ sets l i (vs ++ ws)
+  sets-append [] ws l i = let e : i + 0 ≡ i = omega arith in rw e
+  sets-append (v ∷ vs) ws l i =
+      let e : i + suc (length vs) ≡ suc i + length vs = omega arith in
+      rw e (sets-append vs ws (set l i v) (suc i))
+
+  pub sets-next : (l vs : List A) (i : ℕ) (x : A) → length vs ≡ i → set (sets l 0 vs) i x ≡ sets l 0 (vs ++ (x ∷ []))
+  sets-next l vs i x e = let z : 0 + length vs ≡ i = omega arith in rw z at (sets-append vs (x ∷ []) l 0)
+
+  drop-replicate : (k n : ℕ) (d : A) → drop k (replicate n d) ≡ replicate (n - k) d
+  drop-replicate zero n d = rw sub-zero
+  drop-replicate (suc k) zero d = let e : 0 - suc k ≡ 0 = omega arith in rw e
+  drop-replicate (suc k) (suc n) d = let e : suc n - suc k ≡ n - k = omega arith in rw e (drop-replicate k n d)
+
+  -- places that all had d, stored from the first on
+  pub sets-filled : (n : ℕ) (d : A) (vs : List A) → length vs ≤ n → sets (replicate n d) 0 vs ≡ filled n d vs
+  sets-filled n d vs h =
+      let fits : 0 + length vs ≤ length (replicate n d) = rw length-replicate (omega arith) in
+      sets-eq vs (replicate n d) 0 fits ∙ rw (zero-add, drop-replicate)
