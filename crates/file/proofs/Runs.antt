@@ -1,6 +1,6 @@
 -- Runs of stores, and runs of numbers mapped: one more at the end. Assumes nothing.
 use mathlib.Core.Path.{_≡_, refl, ap, _∙_}
-use mathlib.Core.List.{List, [], _∷_, _++_, map}
+use mathlib.Core.List.{List, [], _∷_, _++_, map, append-nil}
 use Prim.Native.Nat.{ℕ, zero, suc, _+_, _-_, _≤_, _<_}
 use native.Mathlib.Omega.{arith}
 use native.Mathlib.Nat.{zero-add, sub-zero}
@@ -62,3 +62,8 @@ module _ {A : Type 0} where
   sets-filled n d vs h =
       let fits : 0 + length vs ≤ length (replicate n d) = rw length-replicate (omega arith) in
       sets-eq vs (replicate n d) 0 fits ∙ rw (zero-add, drop-replicate)
+
+  pub sets-full : (n : ℕ) (d : A) (vs : List A) → length vs ≡ n → sets (replicate n d) 0 vs ≡ vs
+  sets-full n d vs e =
+      let none : n - length vs ≡ 0 = omega arith in
+      sets-filled n d vs (omega arith) ∙ rw (none, append-nil)

@@ -7,11 +7,13 @@ ghost use lib.Seq.{sets};
 ghost use Rattle.rules.specs.Idioms.{number, part, filled};
 ghost use Rattle.rules.specs.Tasks.{noTask};
 ghost use Rattle.rules.specs.Refusals.{refused};
-ghost use Rattle.rules.specs.File.{fileLength, recordAt, recordTask, coresIn, checkWhole, decode};
+ghost use Rattle.rules.specs.File.{fileLength, recordAt, recordTask, coresIn, tasksIn, checkWhole, decode};
 ghost use Rattle.file.specs.Sums.{sumsOf, checkTrailer};
 ghost use Rattle.file.specs.Places.{figuresIn, tasksTo};
+ghost use Rattle.file.specs.Answers.{readNothing};
 
 use rules::Picos;
+use rules::Read;
 use rules::Refusal;
 use rules::Table;
 use rules::Task;
@@ -191,4 +193,48 @@ fn tasks(file: &[u8], n: usize) -> [Task; 32]
         i += 1;
     }
     all
+}
+
+// The table of a whole file whose counts have room in it.
+fn table_in(file: &[u8]) -> Table
+    requires { ⌜ coresIn (now file) ≤ 8 ⌝ }
+    requires { ⌜ tasksIn (now file) ≤ 32 ⌝ }
+    requires { ⌜ length (now file) ≡ 46 + 2 * coresIn (now file) + 29 * tasksIn (now file) ⌝ }
+    ensures { λ r. ⌜ r ≡ decode (now (file .entry)) ⌝ }
+{
+    let mut timing = [0u16; 15];
+    figures(file, 4, 15, &mut timing[..]);
+    let mut sets = [0u16; 8];
+    figures(file, 34, size(file[0]), &mut sets[..]);
+    let task = tasks(file, size(file[2]));
+    Table {
+        cores: file[0],
+        partitions: file[1],
+        tasks: file[2],
+        fourth: file[3],
+        timing: timing,
+        sets: sets,
+        task: task,
+    }
+}
+
+// "A refused read gives an all-zero table"
+fn no_table(refusal: Refusal) -> Read
+    ensures { λ r. ⌜ r ≡ readNothing refusal ⌝ }
+{
+    let none = no_task();
+    let task = [none; 32];
+    let table = Table {
+        cores: 0,
+        partitions: 0,
+        tasks: 0,
+        fourth: 0,
+        timing: [0; 15],
+        sets: [0; 8],
+        task: task,
+    };
+    Read {
+        refusal: refusal,
+        table: table,
+    }
 }
