@@ -3,3 +3,4 @@ pub mod Running
 pub mod Checks
 pub mod Runs
 pub mod Steps
+pub mod Stores

@@ -43,14 +43,17 @@ module _ {B : Type 0} (f : ℕ → B) (n : ℕ) where
 
 module _ {A : Type 0} where
   -- a run of stores after another
-  pub sets-append : (vs ws l : List A) (i : ℕ) → sets (sets l i vs) (i + length vs) ws ≡ sets l i (vs ++ ws)
+  sets-append : (vs ws l : List A) (i : ℕ) → sets (sets l i vs) (i + length vs) ws ≡ sets l i (vs ++ ws)
   sets-append [] ws l i = let e : i + 0 ≡ i = omega arith in rw e
   sets-append (v ∷ vs) ws l i =
       let e : i + suc (length vs) ≡ suc i + length vs = omega arith in
       rw e (sets-append vs ws (set l i v) (suc i))
 
+  pub sets-after : (vs ws l : List A) (i j : ℕ) → j ≡ i + length vs → sets (sets l i vs) j ws ≡ sets l i (vs ++ ws)
+  sets-after vs ws l i j e = rw e (sets-append vs ws l i)
+
   pub sets-next : (l vs : List A) (i : ℕ) (x : A) → length vs ≡ i → set (sets l 0 vs) i x ≡ sets l 0 (vs ++ (x ∷ []))
-  sets-next l vs i x e = let z : 0 + length vs ≡ i = omega arith in rw z at (sets-append vs (x ∷ []) l 0)
+  sets-next l vs i x e = sets-after vs (x ∷ []) l 0 i (omega arith)
 
   drop-replicate : (k n : ℕ) (d : A) → drop k (replicate n d) ≡ replicate (n - k) d
   drop-replicate zero n d = rw sub-zero

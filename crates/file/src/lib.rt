@@ -2,12 +2,13 @@
 
 ghost use mathlib.Core.Path.{_≡_};
 ghost use Prim.Native.Nat.{ℕ, _+_, _-_, _*_, _<_, _≤_};
+ghost use mathlib.Core.List.{map};
 ghost use lib.ListN.{length, take, drop};
 ghost use lib.Seq.{sets};
-ghost use Rattle.rules.specs.Idioms.{number, part, filled};
-ghost use Rattle.rules.specs.Tasks.{noTask};
+ghost use Rattle.rules.specs.Idioms.{joined, filled, number, bytes, part};
+ghost use Rattle.rules.specs.Tasks.{noTask, tasksOf};
 ghost use Rattle.rules.specs.Refusals.{refused};
-ghost use Rattle.rules.specs.File.{fileLength, recordAt, recordTask, coresIn, tasksIn, checkWhole, decode};
+ghost use Rattle.rules.specs.File.{recordAt, fileLength, recordBytes, recordTask, trailer, body, coresIn, tasksIn, checkWhole, decode};
 ghost use Rattle.file.specs.Sums.{sumsOf, checkTrailer};
 ghost use Rattle.file.specs.Places.{figuresIn, tasksTo};
 ghost use Rattle.file.specs.Answers.{readNothing};
@@ -125,19 +126,19 @@ pub fn whole(file: &[u8]) -> Refusal
 // ---- the figures of a whole file
 
 // A record's 29 bytes, handed over as a part of the file.
-fn task_in(bytes: &[u8]) -> Task
-    requires { ⌜ length (now bytes) ≡ 29 ⌝ }
-    ensures { λ r. ⌜ r ≡ recordTask (now (bytes .entry)) ⌝ }
+fn task_in(part: &[u8]) -> Task
+    requires { ⌜ length (now part) ≡ 29 ⌝ }
+    ensures { λ r. ⌜ r ≡ recordTask (now (part .entry)) ⌝ }
 {
-    let exec = le64(bytes, 1);
-    let period = le64(bytes, 9);
-    let deadline = le64(bytes, 17);
+    let exec = le64(part, 1);
+    let period = le64(part, 9);
+    let deadline = le64(part, 17);
     Task {
-        core: bytes[0],
+        core: part[0],
         exec: Picos(exec),
         period: Picos(period),
         deadline: Picos(deadline),
-        requests: le32(bytes, 25),
+        requests: le32(part, 25),
     }
 }
 
@@ -237,4 +238,88 @@ fn no_table(refusal: Refusal) -> Read
         refusal: refusal,
         table: table,
     }
+}
+
+// ---- the bytes of a table
+
+// The n lowest bytes of v, from a place on.
+fn put(out: &mut [u8], at: usize, v: u64, n: usize)
+    requires { ⌜ at + n ≤ length (now out) ⌝ }
+    ensures { λ _. ⌜ now (out .exit) ≡ sets (now (out .entry)) at (bytes n v) ⌝ }
+{
+    let mut w = v;
+    let mut i: usize = 0;
+    while i < n {
+        out[at + i] = (w % 256) as u8;
+        w = w / 256;
+        i += 1;
+    }
+}
+
+// The first n figures, two bytes each.
+fn put_figures(out: &mut [u8], at: usize, figures: &[u16], n: usize)
+    requires { ⌜ n ≤ length (now figures) ⌝ }
+    requires { ⌜ n ≤ 255 ⌝ }
+    requires { ⌜ at + 2 * n ≤ length (now out) ⌝ }
+    ensures { λ _. ⌜ now (out .exit) ≡ sets (now (out .entry)) at (joined (map (bytes 2) (take n (now (figures .entry))))) ⌝ }
+{
+    let mut i: usize = 0;
+    while i < n {
+        put(out, at + 2 * i, figures[i] as u64, 2);
+        i += 1;
+    }
+}
+
+fn put_task(out: &mut [u8], at: usize, form: u8, task: Task)
+    requires { ⌜ at + 29 ≤ length (now out) ⌝ }
+    ensures { λ _. ⌜ now (out .exit) ≡ sets (now (out .entry)) at (recordBytes form task) ⌝ }
+{
+    put(out, at, task.core as u64, 1);
+    put(out, at + 1, task.exec.0, 8);
+    put(out, at + 9, task.period.0, 8);
+    put(out, at + 17, task.deadline.0, 8);
+    put(out, at + 25, task.requests as u64, 4);
+}
+
+fn put_tasks(out: &mut [u8], t: Table)
+    requires { ⌜ t .tasks ≤ 32 ⌝ }
+    requires { ⌜ 34 + 2 * t .cores + 29 * t .tasks ≤ length (now out) ⌝ }
+    ensures { λ _. ⌜ now (out .exit) ≡ sets (now (out .entry)) (34 + 2 * t .cores) (joined (map (recordBytes (t .fourth)) (tasksOf t))) ⌝ }
+{
+    let n = size(t.tasks);
+    let mut i: usize = 0;
+    while i < n {
+        let task = t.task[i];
+        put_task(out, record_at(t.fourth, t.cores, i + 1), t.fourth, task);
+        i += 1;
+    }
+}
+
+// What stands before the trailer.
+fn put_body(out: &mut [u8], t: Table)
+    requires { ⌜ t .cores ≤ 8 ⌝ }
+    requires { ⌜ t .tasks ≤ 32 ⌝ }
+    requires { ⌜ 34 + 2 * t .cores + 29 * t .tasks ≤ length (now out) ⌝ }
+    ensures { λ _. ⌜ now (out .exit) ≡ sets (now (out .entry)) 0 (body t) ⌝ }
+{
+    out[0] = t.cores;
+    out[1] = t.partitions;
+    out[2] = t.tasks;
+    out[3] = t.fourth;
+    let timing = t.timing;
+    put_figures(out, 4, &timing[..], 15);
+    let figures = t.sets;
+    put_figures(out, 34, &figures[..], size(t.cores));
+    put_tasks(out, t);
+}
+
+fn put_trailer(out: &mut [u8], e: usize)
+    requires { ⌜ e ≤ 7939 ⌝ }
+    requires { ⌜ e + 12 ≤ length (now out) ⌝ }
+    ensures { λ _. ⌜ now (out .exit) ≡ sets (now (out .entry)) e (trailer (take e (now (out .entry)))) ⌝ }
+{
+    let total = sums(&out[..e]);
+    put(out, e, e as u64, 4);
+    put(out, e + 4, total.sum, 4);
+    put(out, e + 8, total.running, 4);
 }
