@@ -1,4 +1,4 @@
--- Rounding up, t/T as `(t + (T - 1)) / T`, makes a count: it never falls as t grows, and is at least 1 from time 1 on. Assumes nothing.
+-- What makes rounding up, t/T as `(t + (T - 1)) / T`, a count: it never falls as t grows, and is at least 1 from time 1 on. Assumes nothing.
 use Prim.Native.Nat.{ℕ, zero, suc, _+_, _-_, _/_, _≤_, zero-le, suc-le-suc}
 use native.Mathlib.Nat.{le-trans, div-zero, le-div-iff-mul-le, div-mul-le-self}
 use native.Mathlib.Omega.{arith}

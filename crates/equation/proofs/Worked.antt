@@ -1,33 +1,37 @@
--- Worked runs of `judge`, by computation, each on C + (t/T rounded up) · c. Assumes nothing.
+-- Worked runs of `judge`, by computation, for a task with one higher task. Assumes nothing.
 use mathlib.Core.Path.{_≡_, refl}
 use Prim.Native.Nat.{ℕ, _+_, _-_, _*_, _/_, _^_}
 use Rattle.equation.specs.Verdict.{holds, misses}
 use Rattle.equation.specs.Rounds.{judge}
 
--- one higher task, of period T and cost c
-one-higher : ℕ → ℕ → ℕ → ℕ → ℕ
-one-higher C T c t = C + (t + (T - 1)) / T * c
+ceil : ℕ → ℕ → ℕ
+ceil t T = (t + (T - 1)) / T
 
--- two solutions: a fresh start finds the least,
-two-fresh : judge (one-higher (3 * 10 ^ 9) (10 ^ 10) (6 * 10 ^ 9)) (3 * 10 ^ 9) (2 * 10 ^ 10) 0 ≡ record { verdict = holds (9 * 10 ^ 9); rounds = 2 }
-unfolding one-higher judge
+-- two solutions: a fresh start finds the least, and a start above it the other
+two : ℕ → ℕ
+two t = 3 * 10 ^ 9 + ceil t (10 ^ 10) * (6 * 10 ^ 9)
+
+two-fresh : judge two (3 * 10 ^ 9) (2 * 10 ^ 10) 0 ≡ record { verdict = holds (9 * 10 ^ 9); rounds = 2 }
+unfolding judge two ceil
 two-fresh = refl
 
--- and a start above it the other
-two-given : judge (one-higher (3 * 10 ^ 9) (10 ^ 10) (6 * 10 ^ 9)) (3 * 10 ^ 9) (2 * 10 ^ 10) (12 * 10 ^ 9) ≡ record { verdict = holds (15 * 10 ^ 9); rounds = 2 }
-unfolding one-higher judge
+two-given : judge two (3 * 10 ^ 9) (2 * 10 ^ 10) (12 * 10 ^ 9) ≡ record { verdict = holds (15 * 10 ^ 9); rounds = 2 }
+unfolding judge two ceil
 two-given = refl
 
--- a miss: the bound is 10^10, which holds at that deadline and misses at one less
-just-holds : judge (one-higher (10 ^ 9) (10 ^ 10) (9 * 10 ^ 9)) (10 ^ 9) (10 ^ 10) 0 ≡ record { verdict = holds (10 ^ 10); rounds = 2 }
-unfolding one-higher judge
-just-holds = refl
+-- the same least solution: it holds where it is the deadline, and misses where the deadline is one less
+two-just-holds : judge two (3 * 10 ^ 9) (9 * 10 ^ 9) 0 ≡ record { verdict = holds (9 * 10 ^ 9); rounds = 2 }
+unfolding judge two ceil
+two-just-holds = refl
 
-just-misses : judge (one-higher (10 ^ 9) (10 ^ 10) (9 * 10 ^ 9)) (10 ^ 9) (10 ^ 10 - 1) 0 ≡ record { verdict = misses; rounds = 1 }
-unfolding one-higher judge
-just-misses = refl
+two-misses : judge two (3 * 10 ^ 9) (9 * 10 ^ 9 - 1) 0 ≡ record { verdict = misses; rounds = 1 }
+unfolding judge two ceil
+two-misses = refl
 
--- a thousand rounds
-thousand : judge (one-higher 1 10 10) 1 10000 0 ≡ record { verdict = misses; rounds = 1000 }
-unfolding one-higher judge
+-- a thousand rounds, each of ten more
+ten-more : ℕ → ℕ
+ten-more t = 1 + ceil t 10 * 10
+
+thousand : judge ten-more 1 10000 0 ≡ record { verdict = misses; rounds = 1000 }
+unfolding judge ten-more ceil
 thousand = refl
