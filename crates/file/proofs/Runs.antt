@@ -1,5 +1,5 @@
 -- Runs of stores, and runs of numbers mapped: one more at the end. Assumes nothing.
-use mathlib.Core.Path.{_≡_, refl, ap, _∙_}
+use mathlib.Core.Path.{_≡_, refl, sym, ap, _∙_}
 use mathlib.Core.List.{List, [], _∷_, _++_, map, append-nil}
 use Prim.Native.Nat.{ℕ, zero, suc, _+_, _-_, _≤_, _<_}
 use native.Mathlib.Omega.{arith}
@@ -27,6 +27,10 @@ module _ {A B : Type 0} (f : A → B) where
   pub map-snoc : (xs : List A) (x : A) → map f (xs ++ (x ∷ [])) ≡ map f xs ++ (f x ∷ [])
   map-snoc [] x = refl
   map-snoc (y ∷ xs) x = ap {B = List B} (λ l. f y ∷ l) (map-snoc xs x)
+
+-- the length of an array of structs, which the logic has as that of a list mapped: for `search (needs, unmapped)`
+pub unmapped : (A B : Type 0) (f : A → B) (l : List A) (n : ℕ) → length (map f l) ≡ n → length l ≡ n
+unmapped A B f l n p = sym (length-map l f) ∙ p
 
 module _ {B : Type 0} (f : ℕ → B) (n : ℕ) where
   pub map-below-next : map f (below (n + 1)) ≡ map f (below n) ++ (f n ∷ [])

@@ -5,12 +5,14 @@ use Prim.Native.Nat.{ℕ, suc, _+_, _*_, _-_, _/_, _%_, _<_, _≤_}
 use native.Mathlib.Omega.{arith}
 use native.Mathlib.Numerals.{add-one}
 use lib.ListN.{length, length-append, take, getD, set}
-use lib.Seq.{sets, take-suc, length-take-le}
+use lib.Seq.{sets, take-suc, take-all, length-take-le}
 use Rattle.rules.specs.Idioms.{joined, bytes}
 use Rattle.rules.specs.declared.Task.{Task}
-use Rattle.rules.specs.Tasks.{C, T, D, H}
-use Rattle.rules.specs.File.{recordBytes, sumOf, runningSum, trailer}
+use Rattle.rules.specs.declared.Table.{Table}
+use Rattle.rules.specs.Tasks.{C, T, D, H, tasksOf}
+use Rattle.rules.specs.File.{recordBytes, sumOf, runningSum, trailer, body}
 use Rattle.rules.proofs.Bytes.{bytes-length}
+use Rattle.file.specs.Places.{counts}
 use Rattle.file.proofs.Runs.{map-snoc, sets-after}
 
 pub byte-next : (l : List ℕ) (at v n i : ℕ) → i < n
@@ -66,3 +68,46 @@ trailer-stores s out at =
     let a = bytes 4 (length s) in
     rw (sets-after a (bytes 4 (sumOf s)) out at (at + 4) (simp bytes-length))
     (sets-after (a ++ bytes 4 (sumOf s)) (bytes 4 (runningSum s)) out at (at + 8) (simp (length-append, bytes-length)))
+
+-- a table's arrays have room for its counts
+module _ (t : Table) (figures : length (t .timing) ≡ 15) (cores : t .cores ≤ length (t .sets)) where
+  timing-bytes : List ℕ
+  timing-bytes = joined (map (bytes 2) (t .timing))
+
+  sets-bytes : List ℕ
+  sets-bytes = joined (map (bytes 2) (take (t .cores) (t .sets)))
+
+  timing-length : length timing-bytes ≡ 30
+  unfolding timing-bytes
+  timing-length = joined-length (bytes 2) 2 (bytes-length 2) (t .timing) ∙ rw figures
+
+  sets-length : length sets-bytes ≡ 2 * t .cores
+  unfolding sets-bytes
+  sets-length = joined-length (bytes 2) 2 (bytes-length 2) (take (t .cores) (t .sets)) ∙ rw (length-take-le (t .cores) (t .sets) cores)
+
+  front-length : length (counts t ++ timing-bytes ++ sets-bytes) ≡ 34 + 2 * t .cores
+  front-length = simp (length-append, timing-length, sets-length) (omega arith)
+
+  -- what stands before the trailer, each part stored after the one before
+  pub body-stores : (out : List ℕ)
+      → sets (sets (sets (sets out 0 (counts t)) 4 (joined (map (bytes 2) (take 15 (t .timing))))) 34 (joined (map (bytes 2) (take (t .cores) (t .sets)))))
+          (34 + 2 * t .cores)
+          (joined (map (recordBytes (t .fourth)) (tasksOf t)))
+      ≡ sets out 0 (body t)
+  unfolding body timing-bytes sets-bytes
+  body-stores out =
+      let records = joined (map (recordBytes (t .fourth)) (tasksOf t)) in
+      rw (
+        take-all 15 (t .timing) (omega arith),
+        sets-after (counts t) timing-bytes out 0 4 (omega arith),
+        sets-after (counts t ++ timing-bytes) sets-bytes out 0 34 (rw length-append (omega (arith, timing-length))),
+      )
+      (sets-after (counts t ++ timing-bytes ++ sets-bytes) records out 0 (34 + 2 * t .cores) (omega (arith, front-length)))
+
+  pub body-length : t .tasks ≤ length (t .task) → length (body t) ≡ 34 + 2 * t .cores + 29 * t .tasks
+  unfolding body timing-bytes sets-bytes
+  body-length tasks =
+      let records : length (joined (map (recordBytes (t .fourth)) (tasksOf t))) ≡ 29 * t .tasks =
+        joined-length (recordBytes (t .fourth)) 29 (record-length (t .fourth)) (tasksOf t) ∙ rw (length-take-le (t .tasks) (t .task) tasks)
+      in
+      rw length-append (omega (arith, records, front-length))

@@ -10,7 +10,7 @@ ghost use Rattle.rules.specs.Tasks.{noTask, tasksOf};
 ghost use Rattle.rules.specs.Refusals.{refused};
 ghost use Rattle.rules.specs.File.{recordAt, fileLength, recordBytes, recordTask, trailer, body, coresIn, tasksIn, checkWhole, decode};
 ghost use Rattle.file.specs.Sums.{sumsOf, checkTrailer};
-ghost use Rattle.file.specs.Places.{figuresIn, tasksTo};
+ghost use Rattle.file.specs.Places.{counts, figuresIn, tasksTo};
 ghost use Rattle.file.specs.Answers.{readNothing};
 
 use rules::Picos;
@@ -295,6 +295,16 @@ fn put_tasks(out: &mut [u8], t: Table)
     }
 }
 
+fn put_counts(out: &mut [u8], t: Table)
+    requires { ⌜ 4 ≤ length (now out) ⌝ }
+    ensures { λ _. ⌜ now (out .exit) ≡ sets (now (out .entry)) 0 (counts t) ⌝ }
+{
+    out[0] = t.cores;
+    out[1] = t.partitions;
+    out[2] = t.tasks;
+    out[3] = t.fourth;
+}
+
 // What stands before the trailer.
 fn put_body(out: &mut [u8], t: Table)
     requires { ⌜ t .cores ≤ 8 ⌝ }
@@ -302,10 +312,7 @@ fn put_body(out: &mut [u8], t: Table)
     requires { ⌜ 34 + 2 * t .cores + 29 * t .tasks ≤ length (now out) ⌝ }
     ensures { λ _. ⌜ now (out .exit) ≡ sets (now (out .entry)) 0 (body t) ⌝ }
 {
-    out[0] = t.cores;
-    out[1] = t.partitions;
-    out[2] = t.tasks;
-    out[3] = t.fourth;
+    put_counts(out, t);
     let timing = t.timing;
     put_figures(out, 4, &timing[..], 15);
     let figures = t.sets;
