@@ -4,3 +4,5 @@ pub mod Checks
 pub mod Runs
 pub mod Steps
 pub mod Stores
+pub mod Reading
+pub mod Writing

@@ -9,15 +9,17 @@ ghost use Rattle.rules.specs.Idioms.{joined, filled, number, bytes, part};
 ghost use Rattle.rules.specs.Tasks.{noTask, tasksOf};
 ghost use Rattle.rules.specs.Refusals.{refused};
 ghost use Rattle.rules.specs.File.{recordAt, fileLength, recordBytes, recordTask, trailer, body, coresIn, tasksIn, checkWhole, decode};
+ghost use Rattle.rules.specs.Operations.{reading, checkView, viewing};
 ghost use Rattle.file.specs.Sums.{sumsOf, checkTrailer};
 ghost use Rattle.file.specs.Places.{counts, figuresIn, tasksTo};
-ghost use Rattle.file.specs.Answers.{readNothing};
+ghost use Rattle.file.specs.Answers.{readNothing, wroteNothing, Wrote};
 
 use rules::Picos;
 use rules::Read;
 use rules::Refusal;
 use rules::Table;
 use rules::Task;
+use rules::Written;
 
 // The numbers that two, four and eight bytes give.
 fn le16(s: &[u8], at: usize) -> u16
@@ -240,6 +242,64 @@ fn no_table(refusal: Refusal) -> Read
     }
 }
 
+// Reading: 1 to 4, then 5 to 11. Counts that have no room in a table are refused before the figures are looked at.
+pub fn read(file: &[u8]) -> Read
+    ensures { λ r. ⌜ r ≡ reading (now (file .entry)) ⌝ }
+{
+    let came = whole(file);
+    if came.number != 0 {
+        return no_table(came);
+    }
+    if 8 < file[0] {
+        return no_table(no_place(5));
+    }
+    if 32 < file[2] {
+        return no_table(no_place(5));
+    }
+    let found = table_in(file);
+    let refusal = table::check(found);
+    if refusal.number != 0 {
+        return no_table(refusal);
+    }
+    Read {
+        refusal: refusal,
+        table: found,
+    }
+}
+
+// ---- the record of a task, shown as a part of the file
+
+// 1 to 12.
+pub fn view_refusal(file: &[u8], k: u8) -> Refusal
+    ensures { λ r. ⌜ r ≡ checkView (now (file .entry)) k ⌝ }
+{
+    let got = read(file);
+    let refusal = got.refusal;
+    if refusal.number != 0 {
+        return refusal;
+    }
+    if k < 1 {
+        return no_place(12);
+    }
+    if file[2] < k {
+        return no_place(12);
+    }
+    no_place(0)
+}
+
+// "a refused view an empty part"
+pub fn view<'a>(file: &'a [u8], k: u8) -> &'a [u8]
+    ensures { λ r. ⌜ now r ≡ viewing (now (file .entry)) k ⌝ }
+{
+    let refusal = view_refusal(file, k);
+    if refusal.number != 0 {
+        return &file[0..0];
+    }
+    let a = record_at(file[3], file[0], size(k));
+    let e = a + 29;
+    &file[a..e]
+}
+
 // ---- the bytes of a table
 
 // The n lowest bytes of v, from a place on.
@@ -329,4 +389,34 @@ fn put_trailer(out: &mut [u8], e: usize)
     put(out, e, e as u64, 4);
     put(out, e + 4, total.sum, 4);
     put(out, e + 8, total.running, 4);
+}
+
+// "a refused writing the length 0"
+fn nothing(refusal: Refusal) -> Written
+    ensures { λ r. ⌜ r ≡ wroteNothing refusal ⌝ }
+{
+    Written {
+        refusal: refusal,
+        length: 0,
+    }
+}
+
+// Writing: 5 to 11, then 15. No byte is touched before all of them are passed.
+pub fn write(t: Table, out: &mut [u8]) -> Written
+    ensures { λ r. ⌜ Wrote t (now (out .entry)) r (now (out .exit)) ⌝ }
+{
+    let refusal = table::check(t);
+    if refusal.number != 0 {
+        return nothing(refusal);
+    }
+    let n = file_length(t.fourth, t.cores, t.tasks);
+    if out.len() < n {
+        return nothing(no_place(15));
+    }
+    put_body(out, t);
+    put_trailer(out, n - 12);
+    Written {
+        refusal: no_place(0),
+        length: n,
+    }
 }
