@@ -64,11 +64,13 @@ module _ {A : Type 0} where
   drop-replicate (suc k) zero d = let e : 0 - suc k ≡ 0 = omega arith in rw e
   drop-replicate (suc k) (suc n) d = let e : suc n - suc k ≡ n - k = omega arith in rw e (drop-replicate k n d)
 
-  -- places that all had d, stored from the first on
+  -- a run of stores from the first place on
+  pub sets-front : (vs l : List A) → length vs ≤ length l → sets l 0 vs ≡ vs ++ drop (length vs) l
+  sets-front vs l h = sets-eq vs l 0 (omega arith) ∙ rw zero-add
+
+  -- and in places that all had d
   pub sets-filled : (n : ℕ) (d : A) (vs : List A) → length vs ≤ n → sets (replicate n d) 0 vs ≡ filled n d vs
-  sets-filled n d vs h =
-      let fits : 0 + length vs ≤ length (replicate n d) = rw length-replicate (omega arith) in
-      sets-eq vs (replicate n d) 0 fits ∙ rw (zero-add, drop-replicate)
+  sets-filled n d vs h = sets-front vs (replicate n d) (rw length-replicate h) ∙ rw drop-replicate
 
   pub sets-full : (n : ℕ) (d : A) (vs : List A) → length vs ≡ n → sets (replicate n d) 0 vs ≡ vs
   sets-full n d vs e =

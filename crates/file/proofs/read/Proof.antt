@@ -47,9 +47,6 @@ table-in-requires c κs =
     let e = c .before .before .before .before in
     omega (arith, whole-length (e .before .before .before .before .args .file .now) (came e))
 
-check-requires : tie.Need-check-requires
-check-requires c κs = ?
-
 returns-4 : tie.Need-returns-4
 returns-4 c =
     let d = c .before .before .before in
@@ -70,4 +67,4 @@ returns-5 c =
 pub read-spec : {M : Type 1} → statement M
 read-spec =
     tie.close
-    (tie.spec (λ c κs. search needs) (λ c κs. search needs) returns shared-slice-read-if2 (λ c κs. search needs) (λ c κs. search needs) returns-2 shared-slice-read-if3 (λ c κs. search needs) (λ c κs. search needs) returns-3 table-in-requires check-requires (λ c κs. search needs) returns-4 returns-5)
+    (tie.spec (λ c κs. search needs) (λ c κs. search needs) returns shared-slice-read-if2 (λ c κs. search needs) (λ c κs. search needs) returns-2 shared-slice-read-if3 (λ c κs. search needs) (λ c κs. search needs) returns-3 table-in-requires (λ c κs. search needs) (λ c κs. search needs) returns-4 returns-5)
