@@ -16,7 +16,10 @@ sets-append l at (b ∷ v) w =
     let e : at + suc (length v) ≡ suc at + length v = omega arith in
     rw (e, sets-append (set l at b) (suc at) v w)
 
-infixr 5 _then_
+pub nothing : (l : List ℕ) (at : ℕ) → Put l at [] at l
+nothing l at = record { ends = omega arith; bytes = refl }
+
+infixl 5 _then_
 pub _then_ : {l m r : List ℕ} {at mid next : ℕ} {v w : List ℕ} → Put l at v mid m → Put m mid w next r → Put l at (v ++ w) next r
 _then_ {l} {m} {r} {at} {mid} {next} {v} {w} p q = record {
   ends = omega (arith, p .ends, q .ends, length-append v w);
