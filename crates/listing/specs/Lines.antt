@@ -5,10 +5,12 @@ use Prim.Native.Nat.{ℕ}
 use lib.Dec.{leb}
 use Rattle.rules.specs.declared.Table.{Table}
 use Rattle.rules.specs.declared.Answer.{Answer}
-use Rattle.rules.specs.Idioms.{text, upTo, entry, joined}
+use Rattle.listing.specs.declared.last.First.{First}
+use Rattle.listing.specs.declared.last.First.the-variants.{Nothing, At}
+use Rattle.rules.specs.Idioms.{text, upTo, entry, joined, those}
 use Rattle.rules.specs.Judgement.{misses}
 use Rattle.rules.specs.Tasks.{coreOf}
-use Rattle.rules.specs.Listing.{taskLine}
+use Rattle.rules.specs.Listing.{taskLine, isMiss}
 
 -- words with a space before each and after the last
 abbrev pub spaced : List (List ℕ) → List ℕ
@@ -21,3 +23,11 @@ row t answers k = taskLine k (coreOf t k) (entry (misses 0) answers k)
 
 unfoldable pub rows : Table → List Answer → ℕ → List ℕ
 rows t answers n = joined (map (row t answers) (upTo n))
+
+-- the tasks that miss, of the first n; and the first of some
+unfoldable pub missed : List Answer → ℕ → List ℕ
+missed answers n = those (λ k. isMiss (entry (misses 0) answers k .verdict)) (upTo n)
+
+abbrev pub firstOf : List ℕ → First
+firstOf [] = Nothing
+firstOf (k ∷ ks) = At k
