@@ -16,8 +16,8 @@ use Rattle.rules.specs.File.{setsAt, recordsAt, recordSize, recordAt, fi
 use Rattle.rules.specs.Operations.{checkFile, reading, checkView, viewing, checkWrite, writing, outAfter, judgeOne, answersFrom, judgeAll, olderBound, checkBoth, isCarried, rejudging}
 use Rattle.rules.specs.Listing.{decimal, delayWord, verdictWords, taskLine, tableLines, listing}
 use Rattle.rules.specs.Figures.{ddr3-cap, board, apart2, apart4, sharing2, sharing-and-apart, three, listed, two-solutions, judgedLine}
-use Rattle.rules.specs.Further.{chain, rowWith, small}
+use Rattle.rules.specs.Further.{chain, own-requests, rowWith, small, smallWith, two}
 
 unfoldable pub every-rule : Unit {0}
-unfolding from number bytes ranges ddr3-1333 inTime pre act readwrite hit reopen conf run window releases latest tasksOn higher elsewhere share near far crossing conflict inter intra RD arrivals jinter JD memoryOf preemption request job delay response decided F decider rounds.climb rounds.judge lowest roundsOf judge sameBoard worseTask worsens firstFrom fourthAllowed countsFault figureFault relationsHold relationFault checkTiming setFault coreFault timeFault requestFault checkBoard checkTasks checkTable askedFault lateStart highStart checkOne checkAll setsAt recordsAt recordSize recordAt fileLength recordBytes recordTask runningSum trailer body encode recordIn checkWhole decode checkFile reading checkView viewing checkWrite writing outAfter judgeOne answersFrom judgeAll olderBound checkBoth isCarried rejudging decimal delayWord verdictWords taskLine tableLines listing ddr3-cap board apart2 apart4 sharing2 sharing-and-apart three listed two-solutions judgedLine chain rowWith small
+unfolding from number bytes ranges ddr3-1333 inTime pre act readwrite hit reopen conf run window releases latest tasksOn higher elsewhere share near far crossing conflict inter intra RD arrivals jinter JD memoryOf preemption request job delay response decided F decider rounds.climb rounds.judge lowest roundsOf judge sameBoard worseTask worsens firstFrom fourthAllowed countsFault figureFault relationsHold relationFault checkTiming setFault coreFault timeFault requestFault checkBoard checkTasks checkTable askedFault lateStart highStart checkOne checkAll setsAt recordsAt recordSize recordAt fileLength recordBytes recordTask runningSum trailer body encode recordIn checkWhole decode checkFile reading checkView viewing checkWrite writing outAfter judgeOne answersFrom judgeAll olderBound checkBoth isCarried rejudging decimal delayWord verdictWords taskLine tableLines listing ddr3-cap board apart2 apart4 sharing2 sharing-and-apart three listed two-solutions judgedLine chain own-requests rowWith small smallWith two
 every-rule = tt
