@@ -45,6 +45,6 @@ module _ (t : Table) (out : List ℕ) where
   unfolding encode
   file-stores h =
       let front : take (length (body t)) (sets out 0 (body t)) ≡ body t =
-        rw (sets-front (body t) out (omega (arith, encode-length t))) (take-append-seam (body t) (drop (length (body t)) out))
+      rw (sets-front (body t) out (omega (arith, encode-length t))) (take-append-seam (body t) (drop (length (body t)) out))
       in
       rw front (sets-after (body t) (trailer (body t)) out 0 (length (body t)) (sym (zero-add _)) ∙ sets-front (encode t) out h)

@@ -13,7 +13,6 @@ ghost use Rattle.rules.specs.Operations.{reading, checkView, viewing};
 ghost use Rattle.file.specs.Sums.{sumsOf, checkTrailer};
 ghost use Rattle.file.specs.Places.{counts, figuresIn, tasksTo};
 ghost use Rattle.file.specs.Answers.{readNothing, wroteNothing, Wrote};
-
 use rules::Picos;
 use rules::Read;
 use rules::Refusal;
@@ -144,14 +143,13 @@ fn task_in(part: &[u8]) -> Task
     }
 }
 
-// "34 + 2 times cores + 29 times (k − 1)"
-fn record_at(form: u8, cores: u8, k: usize) -> usize
-    requires { ⌜ 1 ≤ k ⌝ }
-    requires { ⌜ k ≤ 255 ⌝ }
-    ensures { λ r. ⌜ r ≡ recordAt form cores k ⌝ }
-    ensures { λ r. ⌜ r ≡ 34 + 2 * cores + 29 * (k - 1) ⌝ }
+// Where the record in place i starts, which is that of task number i + 1: "34 + 2 times cores + 29 times (k − 1)".
+fn record_at(form: u8, cores: u8, i: usize) -> usize
+    requires { ⌜ i ≤ 255 ⌝ }
+    ensures { λ r. ⌜ r ≡ recordAt form cores (i + 1) ⌝ }
+    ensures { λ r. ⌜ r ≡ 34 + 2 * cores + 29 * i ⌝ }
 {
-    34 + 2 * size(cores) + 29 * (k - 1)
+    34 + 2 * size(cores) + 29 * i
 }
 
 // The n figures of two bytes from a place on.
@@ -189,7 +187,7 @@ fn tasks(file: &[u8], n: usize) -> [Task; 32]
     let mut all = [none; 32];
     let mut i: usize = 0;
     while i < n {
-        let a = record_at(file[3], file[0], i + 1);
+        let a = record_at(file[3], file[0], i);
         let e = a + 29;
         let task = task_in(&file[a..e]);
         all[i] = task;
@@ -222,7 +220,7 @@ fn table_in(file: &[u8]) -> Table
 }
 
 // "A refused read gives an all-zero table"
-fn no_table(refusal: Refusal) -> Read
+fn read_nothing(refusal: Refusal) -> Read
     ensures { λ r. ⌜ r ≡ readNothing refusal ⌝ }
 {
     let none = no_task();
@@ -248,18 +246,18 @@ pub fn read(file: &[u8]) -> Read
 {
     let came = whole(file);
     if came.number != 0 {
-        return no_table(came);
+        return read_nothing(came);
     }
     if 8 < file[0] {
-        return no_table(no_place(5));
+        return read_nothing(no_place(5));
     }
     if 32 < file[2] {
-        return no_table(no_place(5));
+        return read_nothing(no_place(5));
     }
     let found = table_in(file);
     let refusal = table::check(found);
     if refusal.number != 0 {
-        return no_table(refusal);
+        return read_nothing(refusal);
     }
     Read {
         refusal: refusal,
@@ -295,7 +293,7 @@ pub fn view<'a>(file: &'a [u8], k: u8) -> &'a [u8]
     if refusal.number != 0 {
         return &file[0..0];
     }
-    let a = record_at(file[3], file[0], size(k));
+    let a = record_at(file[3], file[0], size(k) - 1);
     let e = a + 29;
     &file[a..e]
 }
@@ -350,7 +348,7 @@ fn put_tasks(out: &mut [u8], t: Table)
     let mut i: usize = 0;
     while i < n {
         let task = t.task[i];
-        put_task(out, record_at(t.fourth, t.cores, i + 1), t.fourth, task);
+        put_task(out, record_at(t.fourth, t.cores, i), t.fourth, task);
         i += 1;
     }
 }
@@ -392,7 +390,7 @@ fn put_trailer(out: &mut [u8], e: usize)
 }
 
 // "a refused writing the length 0"
-fn nothing(refusal: Refusal) -> Written
+fn wrote_nothing(refusal: Refusal) -> Written
     ensures { λ r. ⌜ r ≡ wroteNothing refusal ⌝ }
 {
     Written {
@@ -407,11 +405,11 @@ pub fn write(t: Table, out: &mut [u8]) -> Written
 {
     let refusal = table::check(t);
     if refusal.number != 0 {
-        return nothing(refusal);
+        return wrote_nothing(refusal);
     }
     let n = file_length(t.fourth, t.cores, t.tasks);
     if out.len() < n {
-        return nothing(no_place(15));
+        return wrote_nothing(no_place(15));
     }
     put_body(out, t);
     put_trailer(out, n - 12);
