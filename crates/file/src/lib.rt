@@ -1,9 +1,9 @@
 // Table files: sums and trailer, reader, writer, view. What the bytes mean is in the rules; here is how they are read and written.
 
 ghost use mathlib.Core.Path.{_≡_};
-ghost use Prim.Native.Nat.{ℕ, _+_, _-_, _*_, _<_, _≤_};
+ghost use Prim.Native.Nat.{_+_, _*_, _<_, _≤_};
 ghost use mathlib.Core.List.{map};
-ghost use lib.ListN.{length, take, drop};
+ghost use lib.ListN.{length, take};
 ghost use lib.Seq.{sets};
 ghost use Rattle.rules.specs.Idioms.{joined, filled, number, bytes, part};
 ghost use Rattle.rules.specs.Tasks.{noTask, tasksOf};
@@ -19,6 +19,8 @@ use rules::Refusal;
 use rules::Table;
 use rules::Task;
 use rules::Written;
+
+// ---- numbers and sums
 
 // The numbers that two, four and eight bytes give.
 fn le16(s: &[u8], at: usize) -> u16
@@ -42,12 +44,13 @@ fn le64(s: &[u8], at: usize) -> u64
     (le32(s, at) as u64) + 4294967296 * (le32(s, at + 4) as u64)
 }
 
-// The sum of bytes and the sum of the running sums after each of them.
+// "the sum of those bytes, and the sum of the running sums after each of them"
 struct Totals {
     sum: u64,
     running: u64,
 }
 
+// "These sums are whole numbers": 64 bits hold those of far more bytes than a file can have.
 fn sums(s: &[u8]) -> Totals
     requires { ⌜ length (now s) ≤ 65536 ⌝ }
     ensures { λ r. ⌜ r ≡ sumsOf (now (s .entry)) ⌝ }
@@ -66,6 +69,9 @@ fn sums(s: &[u8]) -> Totals
     }
 }
 
+// ---- did the file come whole?
+
+// A count as a size.
 fn size(x: u8) -> usize
     ensures { λ r. ⌜ r ≡ x ⌝ }
     ensures { λ r. ⌜ r < 256 ⌝ }
@@ -73,6 +79,7 @@ fn size(x: u8) -> usize
     x as usize
 }
 
+// A refusal that has no place; number 0 refuses nothing.
 fn no_place(number: u8) -> Refusal
     ensures { λ r. ⌜ r ≡ refused number 0 ⌝ }
 {
@@ -111,7 +118,7 @@ fn trailer(file: &[u8]) -> Refusal
     no_place(0)
 }
 
-// 1 to 4: did the file come whole?
+// 1 to 4.
 pub fn whole(file: &[u8]) -> Refusal
     ensures { λ r. ⌜ r ≡ checkWhole (now (file .entry)) ⌝ }
 {
@@ -166,6 +173,7 @@ fn figures(file: &[u8], at: usize, n: usize, into: &mut [u16])
     }
 }
 
+// A place with no task.
 fn no_task() -> Task
     ensures { λ r. ⌜ r ≡ noTask ⌝ }
 {
@@ -178,6 +186,7 @@ fn no_task() -> Task
     }
 }
 
+// The first n tasks, and no task in the other places.
 fn tasks(file: &[u8], n: usize) -> [Task; 32]
     requires { ⌜ n ≤ 32 ⌝ }
     requires { ⌜ 34 + 2 * coresIn (now file) + 29 * n ≤ length (now file) ⌝ }
@@ -328,6 +337,7 @@ fn put_figures(out: &mut [u8], at: usize, figures: &[u16], n: usize)
     }
 }
 
+// "core 1, C 8, T 8, D 8, H 4"
 fn put_task(out: &mut [u8], at: usize, form: u8, task: Task)
     requires { ⌜ at + 29 ≤ length (now out) ⌝ }
     ensures { λ _. ⌜ now (out .exit) ≡ sets (now (out .entry)) at (recordBytes form task) ⌝ }
@@ -339,6 +349,7 @@ fn put_task(out: &mut [u8], at: usize, form: u8, task: Task)
     put(out, at + 25, task.requests as u64, 4);
 }
 
+// "Places of a table beyond its counts are ignored by the writer"
 fn put_tasks(out: &mut [u8], t: Table)
     requires { ⌜ t .tasks ≤ 32 ⌝ }
     requires { ⌜ 34 + 2 * t .cores + 29 * t .tasks ≤ length (now out) ⌝ }
@@ -353,6 +364,7 @@ fn put_tasks(out: &mut [u8], t: Table)
     }
 }
 
+// "4 bytes: cores, partitions, tasks, 0"
 fn put_counts(out: &mut [u8], t: Table)
     requires { ⌜ 4 ≤ length (now out) ⌝ }
     ensures { λ _. ⌜ now (out .exit) ≡ sets (now (out .entry)) 0 (counts t) ⌝ }
@@ -378,6 +390,7 @@ fn put_body(out: &mut [u8], t: Table)
     put_tasks(out, t);
 }
 
+// The trailer of the e bytes before it.
 fn put_trailer(out: &mut [u8], e: usize)
     requires { ⌜ e ≤ 7939 ⌝ }
     requires { ⌜ e + 12 ≤ length (now out) ⌝ }

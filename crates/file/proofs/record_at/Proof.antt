@@ -1,5 +1,5 @@
 -- Where a record starts. Assumes nothing.
-use mathlib.Core.Path.{_∙_, sym}
+
 use native.Mathlib.Omega.{arith}
 use borrow.Author.Needs.{needs}
 use Rattle.file.proofs.Checks.{record-at-is}
