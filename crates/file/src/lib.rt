@@ -57,11 +57,11 @@ fn sums(s: &[u8]) -> Totals
 {
     let mut sum: u64 = 0;
     let mut running: u64 = 0;
-    let mut i: usize = 0;
-    while i < s.len() {
-        sum += s[i] as u64;
+    let mut at: usize = 0;
+    while at < s.len() {
+        sum += s[at] as u64;
         running += sum;
-        i += 1;
+        at += 1;
     }
     Totals {
         sum: sum,
@@ -355,12 +355,12 @@ fn put_tasks(out: &mut [u8], t: Table)
     requires { ⌜ 34 + 2 * t .cores + 29 * t .tasks ≤ length (now out) ⌝ }
     ensures { λ _. ⌜ now (out .exit) ≡ sets (now (out .entry)) (34 + 2 * t .cores) (joined (map (recordBytes (t .fourth)) (tasksOf t))) ⌝ }
 {
-    let n = size(t.tasks);
-    let mut i: usize = 0;
-    while i < n {
-        let task = t.task[i];
-        put_task(out, record_at(t.fourth, t.cores, i), t.fourth, task);
-        i += 1;
+    let count = size(t.tasks);
+    let mut done: usize = 0;
+    while done < count {
+        let task = t.task[done];
+        put_task(out, record_at(t.fourth, t.cores, done), t.fourth, task);
+        done += 1;
     }
 }
 
@@ -416,9 +416,9 @@ fn wrote_nothing(refusal: Refusal) -> Written
 pub fn write(t: Table, out: &mut [u8]) -> Written
     ensures { λ r. ⌜ Wrote t (now (out .entry)) r (now (out .exit)) ⌝ }
 {
-    let refusal = table::check(t);
-    if refusal.number != 0 {
-        return wrote_nothing(refusal);
+    let checked = table::check(t);
+    if checked.number != 0 {
+        return wrote_nothing(checked);
     }
     let n = file_length(t.fourth, t.cores, t.tasks);
     if out.len() < n {
