@@ -1,0 +1,7 @@
+-- The laws that the functions' proofs cite.
+--     Quotients  a quotient rounded up is small; a product tested by a division
+--     Sides      sums over two lists side by side, and what every member is
+--     Cut        F by its parts, with request cut off
+pub mod Quotients
+pub mod Sides
+pub mod Cut

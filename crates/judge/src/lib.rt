@@ -1,0 +1,114 @@
+// Judgement of tasks: F without overflow, its rounds, one task and all.
+ghost use mathlib.Core.Path.{_≡_};
+ghost use Prim.Native.Nat.{ℕ, _+_, _*_, _^_, _≤_, _<_, min};
+ghost use Rattle.rules.specs.Sound.{Within};
+ghost use Rattle.judge.specs.Terms.{Counted, Higher, Demanded, Away, Delayed, Fair, termsOf, applied};
+
+use rules::Delay;
+
+// "t/T rounded up"
+fn up(t: u64, period: u64) -> u64
+    requires { ⌜ (t ≤ 10 ^ 12) × Within (10 ^ 8) (10 ^ 12) period ⌝ }
+    ensures { λ r. ⌜ Counted t period r ⌝ }
+{
+    (t + (period - 1)) / period
+}
+
+// The product, or the largest u64 where it is larger than that.
+fn capped(a: u64, b: u64) -> u64
+    ensures { λ r. ⌜ r ≡ min (a * b) 18446744073709551615 ⌝ }
+{
+    if b == 0 {
+        return 0;
+    }
+    if a <= 18446744073709551615 / b {
+        a * b
+    } else {
+        18446744073709551615
+    }
+}
+
+// What the higher tasks of a core ask for: execution time, and requests.
+pub struct Demand {
+    pub exec: u64,
+    pub requests: u64,
+}
+
+fn demanded(periods: &[u64], execs: &[u64], requests: &[u64], t: u64) -> Demand
+    requires { ⌜ t ≤ 10 ^ 12 ⌝ }
+    requires { ⌜ Higher (now periods) (now execs) (now requests) ⌝ }
+    ensures { λ r. ⌜ Demanded (now (periods .entry)) (now (execs .entry)) (now (requests .entry)) t r ⌝ }
+{
+    let mut exec: u64 = 0;
+    let mut asked: u64 = 0;
+    let mut i: usize = 0;
+    while i < periods.len() {
+        let count = up(t, periods[i]);
+        exec += count * execs[i];
+        asked += count * requests[i];
+        i += 1;
+    }
+    Demand {
+        exec,
+        requests: asked,
+    }
+}
+
+// Job: what the tasks elsewhere delay a job in t, each with the job that it carries in.
+fn job(periods: &[u64], loads: &[u64], t: u64) -> u64
+    requires { ⌜ t ≤ 10 ^ 12 ⌝ }
+    requires { ⌜ Away (now periods) (now loads) ⌝ }
+    ensures { λ r. ⌜ Delayed (now (periods .entry)) (now (loads .entry)) t r ⌝ }
+{
+    let mut sum: u64 = 0;
+    let mut i: usize = 0;
+    while i < periods.len() {
+        sum += (up(t, periods[i]) + 1) * loads[i];
+        i += 1;
+    }
+    sum
+}
+
+// The judged task's own figures: C, H, and RD of its core.
+pub struct Own {
+    pub exec: u64,
+    pub requests: u64,
+    pub delay: u64,
+}
+
+// What F gives, and which of the two delays decided.
+pub struct Applied {
+    pub time: u64,
+    pub by: Delay,
+}
+
+// F. Request may be far above 64 bits; capped, it is above job where it was.
+fn apply(
+    own: Own,
+    periods: &[u64],
+    execs: &[u64],
+    asks: &[u64],
+    away: &[u64],
+    loads: &[u64],
+    t: u64,
+) -> Applied
+    requires { ⌜ t ≤ 10 ^ 12 ⌝ }
+    requires { ⌜ Fair (termsOf own (now periods) (now execs) (now asks) (now away) (now loads)) ⌝ }
+    ensures { λ r. ⌜ r ≡ applied (termsOf own (now (periods .entry)) (now (execs .entry)) (now (asks .entry)) (now (away .entry)) (now (loads .entry))) t ⌝ }
+{
+    let higher = demanded(periods, execs, asks, t);
+    let request = capped(own.delay, own.requests + higher.requests);
+    let job = job(away, loads, t);
+    let exec = own.exec + higher.exec;
+    if request <= job {
+        Applied {
+            time: exec + request,
+            by: Delay::Request,
+        }
+    } else {
+        Applied {
+            time: exec + job,
+            by: Delay::Job,
+        }
+    }
+}
