@@ -2,6 +2,8 @@
 --     Quotients  a quotient rounded up is small; a product tested by a division
 --     Sides      sums over two lists side by side, and what every member is
 --     Cut        F by its parts, with request cut off
+--     Rises      the equation is one of the theory's, and the answer that of its rounds
 pub mod Quotients
 pub mod Sides
 pub mod Cut
+pub mod Rises

@@ -3,8 +3,9 @@ ghost use mathlib.Core.Path.{_≡_};
 ghost use Prim.Native.Nat.{ℕ, _+_, _*_, _^_, _≤_, _<_, min};
 ghost use Rattle.rules.specs.Sound.{Within};
 ghost use Rattle.judge.specs.Terms.{Counted, Higher, Demanded, Away, Delayed, Fair, termsOf, applied};
+ghost use Rattle.judge.specs.Run.{Judgeable, Begun, answerOf};
 
-use rules::Delay;
+use rules::{Answer, Delay, Picos, Verdict};
 
 // "t/T rounded up"
 fn up(t: u64, period: u64) -> u64
@@ -69,6 +70,12 @@ fn job(periods: &[u64], loads: &[u64], t: u64) -> u64
     sum
 }
 
+// Whether F lowers the start that the rounds use, and the answer.
+pub struct Climbed {
+    pub high: bool,
+    pub answer: Answer,
+}
+
 // The judged task's own figures: C, H, and RD of its core.
 pub struct Own {
     pub exec: u64,
@@ -110,5 +117,42 @@ fn apply(
             time: exec + job,
             by: Delay::Job,
         }
+    }
+}
+
+// The rounds from a start that is at least C, where F gave `first`, no less than the start.
+fn climb(
+    own: Own,
+    periods: &[u64],
+    execs: &[u64],
+    asks: &[u64],
+    away: &[u64],
+    loads: &[u64],
+    deadline: u64,
+    start: u64,
+    first: Applied,
+) -> Answer
+    requires { ⌜ Judgeable (termsOf own (now periods) (now execs) (now asks) (now away) (now loads)) deadline start ⌝ }
+    requires { ⌜ Begun (termsOf own (now periods) (now execs) (now asks) (now away) (now loads)) start first ⌝ }
+    ensures { λ r. ⌜ r ≡ answerOf (termsOf own (now (periods .entry)) (now (execs .entry)) (now (asks .entry)) (now (away .entry)) (now (loads .entry))) deadline start ⌝ }
+{
+    let mut t = start;
+    let mut n: u64 = 1;
+    let mut next = first;
+    while next.time != t {
+        if deadline < next.time {
+            return Answer {
+                verdict: Verdict::Misses,
+                rounds: n,
+            };
+        }
+        t = next.time;
+        n += 1;
+        next = apply(own, periods, execs, asks, away, loads, t);
+    }
+    let by = next.by;
+    Answer {
+        verdict: Verdict::Holds(Picos(t), by),
+        rounds: n,
     }
 }
