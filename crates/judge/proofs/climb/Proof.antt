@@ -42,7 +42,7 @@ loop-again c =
 returns-2 : tie.Need-returns-2 Inv-loop μ-loop
 returns-2 c =
     let s = c .before .before .before .before .before .before .before .before in
-    last-holds _ (s .pre .0) (s .pre .1) (c .before .loop .inv) (omega arith)
+    last-holds _ (s .pre .0) (s .pre .1) (c .before .before .loop .inv) (omega arith)
 
 pub climb-spec : {M : Type 1} → statement M
 climb-spec =
