@@ -3,7 +3,9 @@
 --     Sides      sums over two lists side by side, and what every member is
 --     Cut        F by its parts, with request cut off
 --     Rises      the equation is one of the theory's, and the answer that of its rounds
+--     Starts     the start that the rounds use: F lowers it, or they begin there
 pub mod Quotients
 pub mod Sides
 pub mod Cut
 pub mod Rises
+pub mod Starts

@@ -50,7 +50,7 @@ module _ (m : Terms) where
   pub terms-equation : 1 ≤ m .own .exec → Equation (timeOf m) (m .own .exec)
   terms-equation low = record { rises = λ t u h. time-rises t u h m; above = λ t h. time-above t; some = low }
 
-time-is : (m : Terms) (t : ℕ) {a : Applied} → a ≡ applied m t → a .time ≡ timeOf m t
+pub time-is : (m : Terms) (t : ℕ) {a : Applied} → a ≡ applied m t → a .time ≡ timeOf m t
 unfolding applied
 time-is m t e = ap (λ (a : Applied). a .time) e
 

@@ -1,9 +1,9 @@
 // Judgement of tasks: F without overflow, its rounds, one task and all.
 ghost use mathlib.Core.Path.{_≡_};
-ghost use Prim.Native.Nat.{ℕ, _+_, _*_, _^_, _≤_, _<_, min};
+ghost use Prim.Native.Nat.{ℕ, _+_, _*_, _^_, _≤_, _<_, min, max};
 ghost use Rattle.rules.specs.Sound.{Within};
 ghost use Rattle.judge.specs.Terms.{Counted, Higher, Demanded, Away, Delayed, Fair, termsOf, applied};
-ghost use Rattle.judge.specs.Run.{Judgeable, Begun, answerOf};
+ghost use Rattle.judge.specs.Run.{Judgeable, Begun, answerOf, climbed};
 
 use rules::{Answer, Delay, Picos, Verdict};
 
@@ -154,5 +154,47 @@ fn climb(
     Answer {
         verdict: Verdict::Holds(Picos(t), by),
         rounds: n,
+    }
+}
+
+fn larger(a: u64, b: u64) -> u64
+    ensures { λ r. ⌜ r ≡ max a b ⌝ }
+{
+    if a < b {
+        b
+    } else {
+        a
+    }
+}
+
+// The rounds from the larger of C and the given start, where F does not lower that.
+fn settle(
+    own: Own,
+    periods: &[u64],
+    execs: &[u64],
+    asks: &[u64],
+    away: &[u64],
+    loads: &[u64],
+    deadline: u64,
+    given: u64,
+) -> Climbed
+    requires { ⌜ Judgeable (termsOf own (now periods) (now execs) (now asks) (now away) (now loads)) deadline given ⌝ }
+    ensures { λ r. ⌜ r ≡ climbed (termsOf own (now (periods .entry)) (now (execs .entry)) (now (asks .entry)) (now (away .entry)) (now (loads .entry))) deadline given ⌝ }
+{
+    let start = larger(own.exec, given);
+    let first = apply(own, periods, execs, asks, away, loads, start);
+    if first.time < start {
+        return Climbed {
+            high: true,
+            answer: Answer {
+                verdict: Verdict::Misses,
+                rounds: 0,
+            },
+        };
+    }
+    let answer = climb(own, periods, execs, asks, away, loads, deadline, start, first);
+    Climbed {
+        high: false,
+        answer,
     }
 }
