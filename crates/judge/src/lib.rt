@@ -1,9 +1,11 @@
 // Judgement of tasks: F without overflow, its rounds, one task and all.
 ghost use mathlib.Core.Path.{_≡_};
+ghost use lib.Dec.{eqb};
 ghost use Prim.Native.Nat.{ℕ, _+_, _*_, _^_, _≤_, _<_, min, max};
 ghost use Rattle.rules.specs.Sound.{Within};
 ghost use Rattle.judge.specs.Terms.{Counted, Higher, Demanded, Away, Delayed, Fair, termsOf, applied};
 ghost use Rattle.judge.specs.Run.{Judgeable, Begun, answerOf, climbed};
+ghost use Rattle.judge.specs.Columns.{OneIf, Aligned, HigherGathered};
 
 use rules::{Answer, Delay, Picos, Verdict};
 
@@ -197,4 +199,40 @@ fn settle(
         high: false,
         answer,
     }
+}
+
+fn same(a: u8, b: u8) -> usize
+    ensures { λ r. ⌜ OneIf (eqb a b) r ⌝ }
+{
+    if a == b {
+        1
+    } else {
+        0
+    }
+}
+
+// T, C and H of the places on a core. Each place is written at the next one, which counts only where the core is the one.
+fn higher(
+    core: u8,
+    cores: &[u8],
+    periods: &[u64],
+    execs: &[u64],
+    requests: &[u64],
+    spans: &mut [u64],
+    costs: &mut [u64],
+    asks: &mut [u64],
+) -> usize
+    requires { ⌜ Aligned (now cores) (now periods) (now execs) (now requests) (now spans) (now costs) (now asks) ⌝ }
+    ensures { λ r. ⌜ HigherGathered core (now (cores .entry)) (now (periods .entry)) (now (execs .entry)) (now (requests .entry)) r (now (spans .exit)) (now (costs .exit)) (now (asks .exit)) ⌝ }
+{
+    let mut n: usize = 0;
+    let mut i: usize = 0;
+    while i < cores.len() {
+        spans[n] = periods[i];
+        costs[n] = execs[i];
+        asks[n] = requests[i];
+        n += same(cores[i], core);
+        i += 1;
+    }
+    n
 }
