@@ -1,8 +1,8 @@
 -- What is gathered of a column, place by place: each value is written at the next place, which counts only where the core passes. Assumes nothing.
 use mathlib.Core.Path.{_≡_, refl, ap}
-use mathlib.Core.Bool.{Bool, true, false, cond}
+use mathlib.Core.Bool.{Bool, true, false, cond, not}
 use mathlib.Core.List.{List, [], _∷_, _++_, append-nil}
-use Prim.Native.Nat.{ℕ, zero, suc, _+_, _≤_, _<_}
+use Prim.Native.Nat.{ℕ, zero, suc, _+_, _-_, _≤_, _<_}
 use native.Mathlib.Nat.{not-suc-le-zero, le-of-suc-le-suc, le-refl, add-zero}
 use native.Mathlib.Numerals.{add-one}
 use native.Mathlib.Omega.{arith}
@@ -49,3 +49,7 @@ module _ {passes : ℕ → Bool} {f : ℕ → ℕ → ℕ} {cs xs out : List ℕ
 
     pub gathered-all : length cs ≤ i → length xs ≤ i → take n out ≡ kept passes f cs xs
     gathered-all h g = rw (take-all i cs h, take-all i xs g) at (so .is)
+
+pub one-not : (b : Bool) {r : ℕ} → OneIf b r → OneIf (not b) (1 - r)
+one-not true one = record { is = omega (arith, one .is); high = omega arith }
+one-not false one = record { is = omega (arith, one .is); high = omega arith }

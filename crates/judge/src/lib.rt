@@ -1,11 +1,12 @@
 // Judgement of tasks: F without overflow, its rounds, one task and all.
 ghost use mathlib.Core.Path.{_≡_};
+ghost use mathlib.Core.Bool.{not};
 ghost use lib.Dec.{eqb};
 ghost use Prim.Native.Nat.{ℕ, _+_, _*_, _^_, _≤_, _<_, min, max};
 ghost use Rattle.rules.specs.Sound.{Within};
 ghost use Rattle.judge.specs.Terms.{Counted, Higher, Demanded, Away, Delayed, Fair, termsOf, applied};
 ghost use Rattle.judge.specs.Run.{Judgeable, Begun, answerOf, climbed};
-ghost use Rattle.judge.specs.Columns.{OneIf, Aligned, HigherGathered};
+ghost use Rattle.judge.specs.Columns.{OneIf, Aligned, HigherGathered, Weighable, loadsBy, Reachable, AwayGathered};
 
 use rules::{Answer, Delay, Picos, Verdict};
 
@@ -232,6 +233,45 @@ fn higher(
         costs[n] = execs[i];
         asks[n] = requests[i];
         n += same(cores[i], core);
+        i += 1;
+    }
+    n
+}
+
+fn differs(a: u8, b: u8) -> usize
+    ensures { λ r. ⌜ OneIf (not (eqb a b)) r ⌝ }
+{
+    1 - same(a, b)
+}
+
+// What the requests of one job from a core cost.
+fn load(weight: &[u64], from: u8, requests: u64) -> u64
+    requires { ⌜ Weighable (now weight) from requests ⌝ }
+    ensures { λ r. ⌜ r ≡ loadsBy (now (weight .entry)) from requests ⌝ }
+{
+    requests * weight[(from as usize) - 1]
+}
+
+// Of the places on other cores T, and H times what one request from there costs, gathered likewise.
+fn elsewhere(
+    core: u8,
+    cores: &[u8],
+    periods: &[u64],
+    requests: &[u64],
+    weight: &[u64],
+    spans: &mut [u64],
+    loads: &mut [u64],
+) -> usize
+    requires { ⌜ Reachable (now cores) (now periods) (now requests) (now weight) (now spans) (now loads) ⌝ }
+    ensures { λ r. ⌜ AwayGathered core (now (cores .entry)) (now (periods .entry)) (now (requests .entry)) (now (weight .entry)) r (now (spans .exit)) (now (loads .exit)) ⌝ }
+{
+    let mut n: usize = 0;
+    let mut i: usize = 0;
+    while i < cores.len() {
+        let from = cores[i];
+        spans[n] = periods[i];
+        loads[n] = load(weight, from, requests[i]);
+        n += differs(from, core);
         i += 1;
     }
     n
