@@ -8,7 +8,8 @@ use native.Mathlib.Numerals.{add-one}
 use native.Mathlib.Omega.{arith}
 use lib.ListN.{length, length-set, take, getD, set}
 use lib.Seq.{take-all, take-suc-set, take-set-le}
-use Rattle.judge.specs.Columns.{kept, OneIf}
+use Rattle.judge.specs.Columns.{kept, OneIf, HigherGathered, AwayGathered, termsAt}
+use Rattle.judge.specs.Terms.{termsOf}
 
 module _ (passes : ℕ → Bool) (f : ℕ → ℕ → ℕ) where
   kept-suc : (i : ℕ) (cs xs : List ℕ) → i < length cs → i < length xs
@@ -34,7 +35,7 @@ module _ {passes : ℕ → Bool} {f : ℕ → ℕ → ℕ} {cs xs out : List ℕ
   gathered-none = record { is = refl; few = le-refl 0; long = refl }
 
   module _ {room i n : ℕ} (so : Gathered passes f cs xs room i n out) where
-    pub gathered-next : (y k : ℕ) → i < length cs → i < length xs → length cs ≤ room → y ≡ f (getD cs i 0) (getD xs i 0)
+    pub gathered-next : (y k : ℕ) → i < length cs → i < length xs → i < room → y ≡ f (getD cs i 0) (getD xs i 0)
         → OneIf (passes (getD cs i 0)) k → Gathered passes f cs xs room (i + 1) (n + k) (set out n y)
     gathered-next y k h g fits e one =
         record {
@@ -53,3 +54,13 @@ module _ {passes : ℕ → Bool} {f : ℕ → ℕ → ℕ} {cs xs out : List ℕ
 pub one-not : (b : Bool) {r : ℕ} → OneIf b r → OneIf (not b) (1 - r)
 one-not true one = record { is = omega (arith, one .is); high = omega arith }
 one-not false one = record { is = omega (arith, one .is); high = omega arith }
+
+-- what is gathered are the terms
+pub gathered-terms : (k : ℕ) (cores periods execs requests : List ℕ) (delay : ℕ) {weight : List ℕ} {n m : ℕ} {spans costs asks away loads : List ℕ}
+    → HigherGathered k cores periods execs requests n spans costs asks
+    → AwayGathered (getD cores k 0) cores periods requests weight m away loads
+    → termsOf (record { exec = getD execs k 0; requests = getD requests k 0; delay = delay }) (take n spans) (take n costs) (take n asks) (take m away) (take m loads)
+    ≡ termsAt k cores periods execs requests delay weight
+unfolding termsAt
+gathered-terms k cores periods execs requests delay h a =
+    rw (h .periods-are, h .execs-are, h .asks-are, a .periods-are, a .loads-are)

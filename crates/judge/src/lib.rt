@@ -2,11 +2,12 @@
 ghost use mathlib.Core.Path.{_≡_};
 ghost use mathlib.Core.Bool.{not};
 ghost use lib.Dec.{eqb};
+ghost use lib.ListN.{getD};
 ghost use Prim.Native.Nat.{ℕ, _+_, _*_, _^_, _≤_, _<_, min, max};
 ghost use Rattle.rules.specs.Sound.{Within};
 ghost use Rattle.judge.specs.Terms.{Counted, Higher, Demanded, Away, Delayed, Fair, termsOf, applied};
 ghost use Rattle.judge.specs.Run.{Judgeable, Begun, answerOf, climbed};
-ghost use Rattle.judge.specs.Columns.{OneIf, Aligned, HigherGathered, Weighable, loadsBy, Reachable, AwayGathered};
+ghost use Rattle.judge.specs.Columns.{OneIf, Aligned, HigherGathered, Weighable, loadsBy, Reachable, AwayGathered, Placed, termsAt};
 
 use rules::{Answer, Delay, Picos, Verdict};
 
@@ -212,9 +213,9 @@ fn same(a: u8, b: u8) -> usize
     }
 }
 
-// T, C and H of the places on a core. Each place is written at the next one, which counts only where the core is the one.
+// T, C and H of the places before k on the core of place k. Each is written at the next place, which counts only where the core is the one.
 fn higher(
-    core: u8,
+    k: usize,
     cores: &[u8],
     periods: &[u64],
     execs: &[u64],
@@ -223,12 +224,13 @@ fn higher(
     costs: &mut [u64],
     asks: &mut [u64],
 ) -> usize
-    requires { ⌜ Aligned (now cores) (now periods) (now execs) (now requests) (now spans) (now costs) (now asks) ⌝ }
-    ensures { λ r. ⌜ HigherGathered core (now (cores .entry)) (now (periods .entry)) (now (execs .entry)) (now (requests .entry)) r (now (spans .exit)) (now (costs .exit)) (now (asks .exit)) ⌝ }
+    requires { ⌜ Aligned k (now cores) (now periods) (now execs) (now requests) (now spans) (now costs) (now asks) ⌝ }
+    ensures { λ r. ⌜ HigherGathered k (now (cores .entry)) (now (periods .entry)) (now (execs .entry)) (now (requests .entry)) r (now (spans .exit)) (now (costs .exit)) (now (asks .exit)) ⌝ }
 {
+    let core = cores[k];
     let mut n: usize = 0;
     let mut i: usize = 0;
-    while i < cores.len() {
+    while i < k {
         spans[n] = periods[i];
         costs[n] = execs[i];
         asks[n] = requests[i];
@@ -275,4 +277,36 @@ fn elsewhere(
         i += 1;
     }
     n
+}
+
+// The task at a place of the columns, from a start that is not above its deadline.
+fn judge_at(
+    k: usize,
+    cores: &[u8],
+    periods: &[u64],
+    execs: &[u64],
+    deadlines: &[u64],
+    requests: &[u64],
+    delay: u64,
+    weight: &[u64],
+    start: u64,
+) -> Climbed
+    requires { ⌜ Placed k (now cores) (now periods) (now execs) (now deadlines) (now requests) (now weight) ⌝ }
+    requires { ⌜ Judgeable (termsAt k (now cores) (now periods) (now execs) (now requests) delay (now weight)) (getD (now deadlines) k 0) start ⌝ }
+    ensures { λ r. ⌜ r ≡ climbed (termsAt k (now (cores .entry)) (now (periods .entry)) (now (execs .entry)) (now (requests .entry)) delay (now (weight .entry))) (getD (now (deadlines .entry)) k 0) start ⌝ }
+{
+    let core = cores[k];
+    let own = Own {
+        exec: execs[k],
+        requests: requests[k],
+        delay,
+    };
+    let mut spans = [0u64; 32];
+    let mut costs = [0u64; 32];
+    let mut asks = [0u64; 32];
+    let n = higher(k, cores, periods, execs, requests, &mut spans, &mut costs, &mut asks);
+    let mut away = [0u64; 32];
+    let mut loads = [0u64; 32];
+    let m = elsewhere(core, cores, periods, requests, weight, &mut away, &mut loads);
+    settle(own, &spans[..n], &costs[..n], &asks[..n], &away[..m], &loads[..m], deadlines[k], start)
 }

@@ -1,26 +1,25 @@
 -- The higher tasks' columns, place by place. Assumes nothing.
 use borrow.Author.Needs.{needs}
 use mathlib.Core.Path.{_≡_, refl}
-use Prim.Native.Nat.{_≤_, _-_}
+use mathlib.Core.Bool.{Bool}
+use Prim.Native.Nat.{ℕ, _≤_, _-_}
 use native.Mathlib.Omega.{arith}
 use lib.Dec.{eqb}
-use lib.ListN.{length}
-use Rattle.judge.proofs.Gather.{Gathered, gathered-none, gathered-next, gathered-all}
+use lib.ListN.{length, getD}
+use Rattle.judge.proofs.Gather.{Gathered, gathered-none, gathered-next}
 use Rattle.judge.proofs.higher.Statement.{statement}
 use Rattle.judge.proofs.higher.Tie as tie
-use Rattle.judge.proofs.higher.Reads as reads
-use Rattle.judge.proofs.higher.Lts as lts
-use Rattle.judge.proofs.same.Reads as same-reads
 
 abbrev Inv-loop : tie.InvT-loop
-Inv-loop core cores periods execs requests spans₀ costs₀ asks₀ n₀ i₀ spans costs asks n i =
-    (i ≤ length cores)
-    × Gathered (λ c. eqb c core) (λ c x. x) cores periods (length spans₀) i n spans
-    × Gathered (λ c. eqb c core) (λ c x. x) cores execs (length costs₀) i n costs
-    × Gathered (λ c. eqb c core) (λ c x. x) cores requests (length asks₀) i n asks
+Inv-loop k cores periods execs requests spans₀ costs₀ asks₀ core n₀ i₀ spans costs asks n i =
+    let on : ℕ → Bool = λ c. eqb c (getD cores k 0) in
+    (i ≤ k)
+    × Gathered on (λ c x. x) cores periods (length spans₀) i n spans
+    × Gathered on (λ c x. x) cores execs (length costs₀) i n costs
+    × Gathered on (λ c x. x) cores requests (length asks₀) i n asks
 
 abbrev μ-loop : tie.MeasureT-loop
-μ-loop core cores periods execs requests spans₀ costs₀ asks₀ n₀ i₀ spans costs asks n i = length cores - i
+μ-loop k cores periods execs requests spans₀ costs₀ asks₀ core n₀ i₀ spans costs asks n i = k - i
 
 loop-again : tie.Need-loop-again Inv-loop μ-loop
 loop-again c =
@@ -34,11 +33,12 @@ loop-again c =
 returns : tie.Need-returns Inv-loop μ-loop
 returns c =
     let v = c .before .loop .inv in
+    let e : c .before .loop .i ≡ c .before .before .before .before .before .before .before .before .before .before .args .k = omega arith in
     record {
-      few = search needs;
-      periods-are = gathered-all (v .1) (omega arith) (omega arith);
-      execs-are = gathered-all (v .2) (omega arith) (omega arith);
-      asks-are = gathered-all (v .3) (omega arith) (omega arith);
+      few = omega arith;
+      periods-are = rw e at (v .1 .is);
+      execs-are = rw e at (v .2 .is);
+      asks-are = rw e at (v .3 .is);
     }
 
 pub higher-spec : {M : Type 1} → statement M
@@ -47,6 +47,7 @@ higher-spec =
     (tie.spec
     Inv-loop
     μ-loop
+    (λ c. search needs)
     (λ c. (search needs, gathered-none, gathered-none, gathered-none))
     (λ c. search needs)
     (λ c. search needs)
