@@ -5,9 +5,11 @@
 --     Rises      the equation is one of the theory's, and the answer that of its rounds
 --     Starts     the start that the rounds use: F lowers it, or they begin there
 --     Gather     what is gathered of a column, place by place
+--     Column     a column of the tasks, place by place
 pub mod Quotients
 pub mod Sides
 pub mod Cut
 pub mod Rises
 pub mod Starts
 pub mod Gather
+pub mod Column

@@ -2,10 +2,12 @@
 use Prim.Native.Nat.{ℕ, _*_, _≤_, _<_, _^_}
 use mathlib.Core.Path.{_≡_}
 use mathlib.Core.Bool.{Bool, cond, not}
-use mathlib.Core.List.{List, [], _∷_}
+use mathlib.Core.List.{List, [], _∷_, map}
 use lib.Dec.{eqb}
 use lib.ListN.{length, take, getD}
+use Rattle.rules.specs.declared.Table.{Table}
 use Rattle.rules.specs.Idioms.{entry}
+use Rattle.rules.specs.Tasks.{C, T, D, H, tasksOf}
 use Rattle.rules.specs.Sound.{Within}
 use Rattle.judge.specs.Terms.{Each, Beside, Terms, termsOf}
 
@@ -90,3 +92,20 @@ pub record Placed (k : ℕ) (cores periods execs deadlines requests weight : Lis
   pub request : Beside cores (10 ^ 6) requests
   pub cores-in : Each (Within 1 8) cores
   pub weights : Weights weight
+
+-- ---- the columns of a table
+
+pub record Filled (t : Table) (cores periods execs deadlines requests : List ℕ) : Type 0 where
+  pub cores-are : take (t .tasks) cores ≡ map (λ j. j .core) (tasksOf t)
+  pub periods-are : take (t .tasks) periods ≡ map T (tasksOf t)
+  pub execs-are : take (t .tasks) execs ≡ map C (tasksOf t)
+  pub deadlines-are : take (t .tasks) deadlines ≡ map D (tasksOf t)
+  pub requests-are : take (t .tasks) requests ≡ map H (tasksOf t)
+
+pub record Room (tasks : ℕ) (cores periods execs deadlines requests : List ℕ) : Type 0 where
+  pub few : tasks ≤ 32
+  pub room-cores : tasks ≤ length cores
+  pub room-periods : tasks ≤ length periods
+  pub room-execs : tasks ≤ length execs
+  pub room-deadlines : tasks ≤ length deadlines
+  pub room-requests : tasks ≤ length requests

@@ -7,9 +7,9 @@ ghost use Prim.Native.Nat.{ℕ, _+_, _*_, _^_, _≤_, _<_, min, max};
 ghost use Rattle.rules.specs.Sound.{Within};
 ghost use Rattle.judge.specs.Terms.{Counted, Higher, Demanded, Away, Delayed, Fair, termsOf, applied};
 ghost use Rattle.judge.specs.Run.{Judgeable, Begun, answerOf, climbed};
-ghost use Rattle.judge.specs.Columns.{OneIf, Aligned, HigherGathered, Weighable, loadsBy, Reachable, AwayGathered, Placed, termsAt};
+ghost use Rattle.judge.specs.Columns.{OneIf, Aligned, HigherGathered, Weighable, loadsBy, Reachable, AwayGathered, Placed, termsAt, Room, Filled};
 
-use rules::{Answer, Delay, Picos, Verdict};
+use rules::{Answer, Delay, Picos, Table, Verdict};
 
 // "t/T rounded up"
 fn up(t: u64, period: u64) -> u64
@@ -309,4 +309,29 @@ fn judge_at(
     let mut loads = [0u64; 32];
     let m = elsewhere(core, cores, periods, requests, weight, &mut away, &mut loads);
     settle(own, &spans[..n], &costs[..n], &asks[..n], &away[..m], &loads[..m], deadlines[k], start)
+}
+
+// The tasks of a table as columns.
+fn columns(
+    table: Table,
+    cores: &mut [u8],
+    periods: &mut [u64],
+    execs: &mut [u64],
+    deadlines: &mut [u64],
+    requests: &mut [u64],
+)
+    requires { ⌜ Room (table .tasks) (now cores) (now periods) (now execs) (now deadlines) (now requests) ⌝ }
+    ensures { λ _. ⌜ Filled table (now (cores .exit)) (now (periods .exit)) (now (execs .exit)) (now (deadlines .exit)) (now (requests .exit)) ⌝ }
+{
+    let n = table.tasks as usize;
+    let mut i: usize = 0;
+    while i < n {
+        let task = table.task[i];
+        cores[i] = task.core;
+        periods[i] = task.period.0;
+        execs[i] = task.exec.0;
+        deadlines[i] = task.deadline.0;
+        requests[i] = task.requests as u64;
+        i += 1;
+    }
 }
