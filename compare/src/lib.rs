@@ -1,0 +1,15 @@
+//! An independent reading of the scope document (document 01), to compare the proved library with.
+//!
+//! Nothing here is shared with the project: it is plain Rust, with sums in `u128`, and follows the document's own order.
+
+pub mod answers;
+pub mod delay;
+pub mod file;
+pub mod gen;
+pub mod judge;
+pub mod listing;
+pub mod refusal;
+pub mod table;
+
+#[cfg(test)]
+mod figures;

@@ -1,0 +1,96 @@
+//! Compares the proved library with the own reading, and measures both.
+//!
+//! `compare check SEED CASES [SERVE WORDS..]` compares; `SERVE` is the command of a program that serves the library, where it
+//! isn't linked. `compare bench SEED` measures the linked library.
+
+#[cfg(linked)]
+mod bench;
+mod cases;
+mod comparer;
+#[cfg(linked)]
+mod ffi;
+mod library;
+mod served;
+
+use std::env;
+use std::error::Error;
+use std::process::ExitCode;
+
+use comparer::{Comparer, Tally};
+use library::Library;
+
+fn main() -> Result<ExitCode, Box<dyn Error>> {
+    let words: Vec<String> = env::args().skip(1).collect();
+    match words.iter().map(String::as_str).collect::<Vec<_>>().as_slice() {
+        ["check", seed, cases, ..] => check(seed.parse()?, cases.parse()?, &words[3..]),
+        ["bench", seed] => bench(seed.parse()?),
+        _ => Err("usage: compare check SEED CASES [SERVE WORDS..], or compare bench SEED".into()),
+    }
+}
+
+fn check(seed: u64, count: u64, serve: &[String]) -> Result<ExitCode, Box<dyn Error>> {
+    let mut on = Comparer::new(reach(serve)?);
+    if let Err(difference) = cases::all(&mut on, seed, count) {
+        println!("{difference}");
+        println!("compare: after {} calls that agree (seed {seed}, {count} tables)", on.tally.calls - 1);
+        return Ok(ExitCode::FAILURE);
+    }
+    println!("{}", summary(seed, count, &on.tally));
+    let never_met = never_met(&on.tally);
+    if count > 0 && !never_met.is_empty() {
+        println!("compare: refusals {never_met:?} were never met, so that this run shows too little");
+        return Ok(ExitCode::FAILURE);
+    }
+    Ok(ExitCode::SUCCESS)
+}
+
+fn summary(seed: u64, count: u64, tally: &Tally) -> String {
+    format!(
+        "compare: {} calls agree (seed {seed}, {count} random tables): {} accepted, {} refused; tasks {} by request, {} by job, \
+         {} missed, at most {} rounds; {} listings, {} too long for their room; {} records",
+        tally.calls,
+        tally.accepted,
+        tally.refused.iter().sum::<u64>(),
+        tally.by_request,
+        tally.by_job,
+        tally.misses,
+        tally.most_rounds,
+        tally.listings,
+        tally.too_short,
+        tally.records
+    )
+}
+
+/// The refusals that reading and judging can give and that no case met.
+fn never_met(tally: &Tally) -> Vec<usize> {
+    (1..=11).chain(13..=14).filter(|&number| tally.refused[number] == 0).collect()
+}
+
+/// The served library where a command is given, else the linked one.
+fn reach(serve: &[String]) -> Result<Box<dyn Library>, Box<dyn Error>> {
+    if !serve.is_empty() {
+        return Ok(Box::new(served::Served::start(serve)?));
+    }
+    linked()
+}
+
+#[cfg(linked)]
+fn linked() -> Result<Box<dyn Library>, Box<dyn Error>> {
+    Ok(Box::new(ffi::Linked))
+}
+
+#[cfg(not(linked))]
+fn linked() -> Result<Box<dyn Library>, Box<dyn Error>> {
+    Err("the library isn't linked on this processor: give the command of a program that serves it".into())
+}
+
+#[cfg(linked)]
+fn bench(seed: u64) -> Result<ExitCode, Box<dyn Error>> {
+    print!("{}", bench::report(seed));
+    Ok(ExitCode::SUCCESS)
+}
+
+#[cfg(not(linked))]
+fn bench(_seed: u64) -> Result<ExitCode, Box<dyn Error>> {
+    Err("the library isn't linked on this processor, and a time under an emulator says nothing".into())
+}
