@@ -1,0 +1,56 @@
+-- The delay figures as code works them out: differences cut off at zero, and window by its two cases. Assumes nothing.
+use mathlib.Core.Path.{_≡_}
+use Prim.Native.Nat.{ℕ, _+_, _*_, _-_, _/_, _≤_, min, max}
+use native.Mathlib.Nat.{sub-zero, mul-le-mul}
+use native.Mathlib.Omega.{arith}
+use borrow.Author.Tests.{eq-eqb, ne-eqb}
+use lib.ListN.{getD}
+use mir.Syntax.{w16}
+use mir.Val.{Fits}
+use Rattle.rules.specs.Timing.{Row, CL, WL, BL, tWTR, tRRD, tFAW, tRTRS, Ncols, Ncap, unknown}
+use Rattle.rules.specs.Units.{cycles}
+use Rattle.rules.specs.Delays.{act, readwrite, reopen, hit, window}
+use Rattle.rules.proofs.Signed.{larger-cut}
+
+module _ (w : Row) where
+  pub act-cut : act w ≡ cycles (max (tRRD w) (tFAW w - 3 * tRRD w))
+  unfolding act
+  act-cut = rw larger-cut
+
+  pub readwrite-cut :
+      readwrite w
+      ≡ cycles
+      (max
+      (max
+      (max
+      (max (WL w + BL w / 2 + tWTR w) (CL w + BL w / 2 + 2 - WL w))
+      (WL w + BL w / 2 + tRTRS w - CL w))
+      (CL w + BL w / 2 + tRTRS w - WL w))
+      (BL w / 2 + tRTRS w))
+  unfolding readwrite
+  readwrite-cut = simp larger-cut (simp sub-zero)
+
+  pub window-unknown : Ncap w ≡ unknown → window w ≡ Ncols w / BL w
+  unfolding window
+  window-unknown e = simp (eq-eqb (Ncap w) unknown e)
+
+  pub window-capped : (Ncap w ≡ unknown → ⊥) → window w ≡ min (Ncols w / BL w) (Ncap w)
+  unfolding window
+  window-capped e = simp (ne-eqb (Ncap w) unknown e)
+
+-- a row of 16-bit figures
+module _ (w : Row) (fits : (k : ℕ) → Fits w16 (getD w k 0)) where
+  pub reopen-fits : reopen w .0 ≤ 131070
+  unfolding reopen
+  reopen-fits = omega (arith, fits 1 .fits, fits 2 .fits)
+
+  pub hit-fits : hit w .0 ≤ 163837
+  unfolding hit
+  hit-fits = omega (arith, fits 3 .fits, fits 4 .fits, fits 5 .fits, fits 6 .fits, fits 7 .fits)
+
+-- at most 65535/2 rounded up, and figures of 16 bits
+pub writes-fit : (m turn : ℕ) → m ≤ 65535 → turn ≤ 163837 → (m + 1) / 2 * turn ≤ 32768 * 163837
+writes-fit m turn h t = mul-le-mul {n₂ = 32768} {m₂ = 163837} (omega arith) t
+
+pub reads-fit : (m cl : ℕ) → m ≤ 65535 → cl ≤ 65535 → m / 2 * cl ≤ 32767 * 65535
+reads-fit m cl h t = mul-le-mul {n₂ = 32767} {m₂ = 65535} (omega arith) t
