@@ -4,12 +4,9 @@ use Prim.Native.Nat.{ℕ, _+_, _*_, _-_, _/_, _≤_, min, max}
 use native.Mathlib.Nat.{sub-zero, mul-le-mul}
 use native.Mathlib.Omega.{arith}
 use borrow.Author.Tests.{eq-eqb, ne-eqb}
-use lib.ListN.{getD}
-use mir.Syntax.{w16}
-use mir.Val.{Fits}
 use Rattle.rules.specs.Timing.{Row, CL, WL, BL, tWTR, tRRD, tFAW, tRTRS, Ncols, Ncap, unknown}
 use Rattle.rules.specs.Units.{cycles}
-use Rattle.rules.specs.Delays.{act, readwrite, reopen, hit, window}
+use Rattle.rules.specs.Delays.{act, readwrite, window}
 use Rattle.rules.proofs.Signed.{larger-cut}
 
 module _ (w : Row) where
@@ -37,16 +34,6 @@ module _ (w : Row) where
   pub window-capped : (Ncap w ≡ unknown → ⊥) → window w ≡ min (Ncols w / BL w) (Ncap w)
   unfolding window
   window-capped e = simp (ne-eqb (Ncap w) unknown e)
-
--- a row of 16-bit figures
-module _ (w : Row) (fits : (k : ℕ) → Fits w16 (getD w k 0)) where
-  pub reopen-fits : reopen w .0 ≤ 131070
-  unfolding reopen
-  reopen-fits = omega (arith, fits 1 .fits, fits 2 .fits)
-
-  pub hit-fits : hit w .0 ≤ 163837
-  unfolding hit
-  hit-fits = omega (arith, fits 3 .fits, fits 4 .fits, fits 5 .fits, fits 6 .fits, fits 7 .fits)
 
 -- at most 65535/2 rounded up, and figures of 16 bits
 pub writes-fit : (m turn : ℕ) → m ≤ 65535 → turn ≤ 163837 → (m + 1) / 2 * turn ≤ 32768 * 163837

@@ -1,13 +1,41 @@
-// Document 01's delay figures as code: in cycles, then times tCK.
+// Document 01's timing row as code: its ranges and relations, and the delay figures, in cycles, then times tCK.
 ghost use mathlib.Core.Path.{_≡_};
-ghost use Prim.Native.Nat.{ℕ, _+_, _-_, _*_, _/_, _<_, _≤_, _^_, min, max};
-ghost use Rattle.rules.specs.Timing.{tCK, CL, WL, BL, tWTR};
+ghost use Prim.Native.Nat.{ℕ, _+_, _-_, _*_, _/_, _%_, _<_, _≤_, _^_, min, max};
+ghost use Rattle.rules.specs.Timing.{tCK, CL, WL, BL, tWTR, ddr3-1333};
 ghost use Rattle.rules.specs.Units.{inTime, _⊕_};
 ghost use Rattle.rules.specs.Delays.{pre, act, readwrite, hit, reopen, conf, run, window};
 ghost use Rattle.rules.specs.Sound.{SoundRow};
+ghost use Rattle.rules.specs.Refusals.{refused, first, figureFault, relationFault, checkTiming};
 ghost use Rattle.timing.specs.Figures.{figuresOf};
+ghost use Rattle.timing.specs.Ranges.{notBurst, outside};
 use rules::Cycles;
 use rules::Picos;
+use rules::Refusal;
+
+// The lowest and highest of a figure.
+pub struct Limits(pub u16, pub u16);
+
+// "The ranges stand as one table of lowest and highest; BL has 4 and 16 there"
+const LIMITS: [Limits; 15] = [
+    Limits(1, 5000),
+    Limits(1, 127),
+    Limits(1, 127),
+    Limits(1, 127),
+    Limits(1, 127),
+    Limits(4, 16),
+    Limits(1, 127),
+    Limits(1, 127),
+    Limits(1, 127),
+    Limits(1, 127),
+    Limits(1, 127),
+    Limits(1, 127),
+    Limits(0, 127),
+    Limits(64, 2048),
+    Limits(0, 65535),
+];
+
+// "The DDR3-1333 row is supplied."
+pub const DDR3_1333: [u16; 15] = [1500, 9, 9, 9, 7, 8, 5, 10, 4, 20, 24, 5, 2, 1024, 65535];
 
 // The figures that a core's delays are made of, as times, and the window, a count.
 pub struct Figures {
@@ -52,11 +80,32 @@ fn quotient(a: u64, b: u64) -> u64
     if b == 0 { 0 } else { a / b }
 }
 
+// The rules' remainder, which is the number itself where the divisor is 0.
+fn remainder(a: u64, b: u64) -> u64
+    ensures { λ r. ⌜ r ≡ a % b ⌝ }
+{
+    if b == 0 { a } else { a % b }
+}
+
+fn plus(a: Cycles, b: Cycles) -> Cycles
+    requires { ⌜ a .0 + b .0 < 2 ^ 64 ⌝ }
+    ensures { λ r. ⌜ r ≡ a ⊕ b ⌝ }
+{
+    Cycles(a.0 + b.0)
+}
+
 // WL + BL/2 + tWTR: from a write to a read.
 fn turn(row: [u16; 15]) -> u64
     ensures { λ r. ⌜ (r ≡ WL row + BL row / 2 + tWTR row) × (r ≤ 163837) ⌝ }
 {
     wide(row[4]) + wide(row[5]) / 2 + wide(row[6])
+}
+
+// "pre = 1."
+pub fn pre() -> Cycles
+    ensures { λ r. ⌜ r ≡ pre ⌝ }
+{
+    Cycles(1)
 }
 
 // "act = max(tRRD, tFAW − 3·tRRD)."
@@ -84,13 +133,19 @@ pub fn readwrite(row: [u16; 15]) -> Cycles
 }
 
 // "hit = max(CL + BL/2 + 2, WL + BL/2 + max(tWTR, tWR))."
-pub fn hit(row: [u16; 15]) -> Cycles
-    ensures { λ r. ⌜ r ≡ hit row ⌝ }
+fn hit_cycles(row: [u16; 15]) -> u64
+    ensures { λ r. ⌜ (r ≡ hit row .0) × (r ≤ 163837) ⌝ }
 {
     let half = wide(row[5]) / 2;
     let read = wide(row[3]) + half + 2;
     let write = wide(row[4]) + half + most(wide(row[6]), wide(row[7]));
-    Cycles(most(read, write))
+    most(read, write)
+}
+
+pub fn hit(row: [u16; 15]) -> Cycles
+    ensures { λ r. ⌜ r ≡ hit row ⌝ }
+{
+    Cycles(hit_cycles(row))
 }
 
 // tRP + tRCD: the two extra commands
@@ -104,7 +159,7 @@ pub fn reopen(row: [u16; 15]) -> Cycles
 pub fn conf(row: [u16; 15]) -> Cycles
     ensures { λ r. ⌜ r ≡ conf row ⌝ }
 {
-    Cycles(reopen(row).0 + hit(row).0)
+    Cycles(wide(row[1]) + wide(row[2]) + hit_cycles(row))
 }
 
 // "run(m) = m/2 rounded up, times (WL + BL/2 + tWTR), plus m/2 rounded down, times CL, plus (tWR − tWTR)."
@@ -138,12 +193,12 @@ pub fn in_time(row: [u16; 15], c: Cycles) -> Picos
     Picos(c.0 * wide(row[0]))
 }
 
-// pre + act + rw: what one request of a far core costs, in cycles. "pre = 1."
+// pre + act + rw: what one request of a far core costs, in cycles
 fn crossing(row: [u16; 15]) -> Cycles
     requires { ⌜ SoundRow row ⌝ }
     ensures { λ r. ⌜ r ≡ pre ⊕ act row ⊕ readwrite row ⌝ }
 {
-    Cycles(1 + act(row).0 + readwrite(row).0)
+    plus(plus(pre(), act(row)), readwrite(row))
 }
 
 pub fn figures_of(row: [u16; 15]) -> Figures
@@ -159,4 +214,98 @@ pub fn figures_of(row: [u16; 15]) -> Figures
         run: in_time(row, run(row, w)),
         window: w,
     }
+}
+
+pub fn ddr3_1333() -> [u16; 15]
+    ensures { λ r. ⌜ r ≡ ddr3-1333 ⌝ }
+{
+    DDR3_1333
+}
+
+// "of the values between only 8 passes"
+fn not_burst(x: u16) -> bool
+    ensures { λ r. ⌜ r ≡ notBurst x ⌝ }
+{
+    if x == 4 {
+        return false;
+    }
+    if x == 8 {
+        return false;
+    }
+    x != 16
+}
+
+// Is x, figure k, outside its range? Figure 6 is BL.
+fn is_outside(limits: Limits, k: usize, x: u16) -> bool
+    ensures { λ r. ⌜ r ≡ outside (limits .0) (limits .1) k x ⌝ }
+{
+    if x < limits.0 {
+        return true;
+    }
+    if limits.1 < x {
+        return true;
+    }
+    if k == 6 { not_burst(x) } else { false }
+}
+
+// 6 "a timing figure is outside its range"
+pub fn check_ranges(row: [u16; 15]) -> Refusal
+    ensures { λ r. ⌜ r ≡ first 6 (figureFault row) 15 ⌝ }
+{
+    let table = LIMITS;
+    let mut i: usize = 0;
+    while i < 15 {
+        if is_outside(table[i], i + 1, row[i]) {
+            return Refusal {
+                number: 6,
+                place: (i + 1) as u8,
+            };
+        }
+        i += 1;
+    }
+    Refusal {
+        number: 0,
+        place: 0,
+    }
+}
+
+fn broken(place: u8) -> Refusal
+    ensures { λ r. ⌜ r ≡ refused 7 place ⌝ }
+{
+    Refusal { number: 7, place }
+}
+
+// 7 "a relation is broken (place: 1 to 5 as listed)"
+pub fn check_relations(row: [u16; 15]) -> Refusal
+    ensures { λ r. ⌜ r ≡ first 7 (relationFault row) 5 ⌝ }
+{
+    if row[7] < row[6] {
+        return broken(1);
+    }
+    if turn(row) < wide(row[3]) {
+        return broken(2);
+    }
+    if wide(row[3]) + wide(row[5]) / 2 + 2 <= wide(row[11]) {
+        return broken(3);
+    }
+    if wide(row[2]) + hit_cycles(row) <= wide(row[10]) {
+        return broken(4);
+    }
+    if remainder(wide(row[13]), wide(row[5])) != 0 {
+        return broken(5);
+    }
+    Refusal {
+        number: 0,
+        place: 0,
+    }
+}
+
+pub fn check_timing(row: [u16; 15]) -> Refusal
+    ensures { λ r. ⌜ r ≡ checkTiming row ⌝ }
+{
+    let ranges = check_ranges(row);
+    if ranges.number != 0 {
+        return ranges;
+    }
+    check_relations(row)
 }
