@@ -103,7 +103,6 @@ pub record Filled (t : Table) (cores periods execs deadlines requests : List ℕ
   pub requests-are : take (t .tasks) requests ≡ map H (tasksOf t)
 
 pub record Room (tasks : ℕ) (cores periods execs deadlines requests : List ℕ) : Type 0 where
-  pub few : tasks ≤ 32
   pub room-cores : tasks ≤ length cores
   pub room-periods : tasks ≤ length periods
   pub room-execs : tasks ≤ length execs

@@ -4,7 +4,7 @@ ghost use mathlib.Core.Bool.{not};
 ghost use lib.Dec.{eqb};
 ghost use lib.ListN.{getD};
 ghost use Prim.Native.Nat.{ℕ, _+_, _*_, _^_, _≤_, _<_, min, max};
-ghost use Rattle.rules.specs.Sound.{Within};
+ghost use Rattle.rules.specs.Sound.{Within, Sound};
 ghost use Rattle.judge.specs.Terms.{Counted, Higher, Demanded, Away, Delayed, Fair, termsOf, applied};
 ghost use Rattle.judge.specs.Run.{Judgeable, Begun, answerOf, climbed};
 ghost use Rattle.judge.specs.Columns.{OneIf, Aligned, HigherGathered, Weighable, loadsBy, Reachable, AwayGathered, Placed, termsAt, Room, Filled};
@@ -320,6 +320,7 @@ fn columns(
     deadlines: &mut [u64],
     requests: &mut [u64],
 )
+    requires { ⌜ Sound table ⌝ }
     requires { ⌜ Room (table .tasks) (now cores) (now periods) (now execs) (now deadlines) (now requests) ⌝ }
     ensures { λ _. ⌜ Filled table (now (cores .exit)) (now (periods .exit)) (now (execs .exit)) (now (deadlines .exit)) (now (requests .exit)) ⌝ }
 {

@@ -5,6 +5,7 @@ use Prim.Native.Nat.{_≤_, _-_}
 use native.Mathlib.Omega.{arith}
 use lib.ListN.{length}
 use Rattle.rules.specs.Tasks.{C, T, D, H, noTask}
+use Rattle.rules.proofs.SoundTasks.{tasks-there}
 use Rattle.judge.proofs.Column.{Column, column-none, column-next}
 use Rattle.judge.proofs.columns.Statement.{statement}
 use Rattle.judge.proofs.columns.Tie as tie
@@ -24,7 +25,7 @@ abbrev μ-loop : tie.MeasureT-loop
 loop-again : tie.Need-loop-again Inv-loop μ-loop
 loop-again c =
     let v = c .before .before .before .loop .inv in
-    let h : length (c .before .before .before .before .args .t1 .task) ≡ 32 = search needs in (
+    let there = tasks-there (c .before .before .before .before .args .t1) (c .before .before .before .before .pre .0) in (
       search needs,
       column-next noTask (v .1) (omega arith) (omega arith),
       column-next noTask (v .2) (omega arith) (omega arith),
