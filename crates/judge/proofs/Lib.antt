@@ -6,6 +6,8 @@
 --     Starts     the start that the rounds use: F lowers it, or they begin there
 --     Gather     what is gathered of a column, place by place
 --     Column     a column of the tasks, place by place
+--     Rules      the terms' F, deciding delay and answer are the rules'
+--     Sound      the terms of a task of a sound table are fair
 pub mod Quotients
 pub mod Sides
 pub mod Cut
@@ -13,3 +15,5 @@ pub mod Rises
 pub mod Starts
 pub mod Gather
 pub mod Column
+pub mod Rules
+pub mod Sound

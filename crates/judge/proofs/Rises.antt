@@ -17,7 +17,7 @@ use Rattle.rules.specs.Units.{ps}
 use Rattle.rules.specs.Judgement.{withDelay}
 use Rattle.judge.specs.Terms.{Terms, sumBoth, released, arrived, requestOf, jobOf, timeOf, byOf, applied}
 use Rattle.judge.specs.declared.Applied.{Applied}
-use Rattle.judge.specs.Run.{Judgeable, Begun, answerOf}
+use Rattle.judge.specs.Run.{Ready, Begun, answerOf}
 use Rattle.judge.proofs.Sides.{sides-mono}
 
 module _ (t u : ℕ) (h : t ≤ u) where
@@ -64,7 +64,7 @@ pub record Underway (m : Terms) (deadline start t n : ℕ) (a : Applied) : Type 
   pub midway : Midway (timeOf m) deadline start t n (a .time)
   pub by : a .by ≡ byOf m t
 
-module _ (m : Terms) {deadline start : ℕ} {first : Applied} (ok : Judgeable m deadline start) (b : Begun m start first) where
+module _ (m : Terms) {deadline start : ℕ} {first : Applied} (ok : Ready m deadline start) (b : Begun m start first) where
   pub first-round : Underway m deadline start start 1 first
   first-round =
       let is = time-is m start (b .is) in

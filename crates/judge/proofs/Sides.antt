@@ -1,6 +1,6 @@
 -- Sums over two lists side by side, as a loop makes them and as the rules have them; and what every member is. Assumes nothing.
 use mathlib.Core.Path.{_≡_, refl}
-use mathlib.Core.List.{List, [], _∷_, map}
+use mathlib.Core.List.{List, [], _∷_, map, List·Memᴰ, List·Memᴰ·head, List·Memᴰ·tail}
 use Prim.Native.Nat.{ℕ, zero, suc, _+_, _*_, _≤_, _<_, zero-le}
 use native.Mathlib.Nat.{not-suc-le-zero, le-of-suc-le-suc, mul-le-mul}
 use native.Mathlib.Numerals.{add-one}
@@ -51,6 +51,11 @@ module _ {P : ℕ → Type 0} where
   each-at none i h = absurd (not-suc-le-zero h)
   each-at (more p e) zero h = p
   each-at (more p e) (suc i) h = each-at e i (le-of-suc-le-suc h)
+
+-- a column of a list of which every member has it so
+pub each-map : {A : Type 0} {P : ℕ → Type 0} (f : A → ℕ) (l : List A) → ((x : A) → List·Memᴰ x l → P (f x)) → Each P (map f l)
+each-map f [] h = none
+each-map f (x ∷ l) h = more (h x (List·Memᴰ·head refl)) (each-map f l (λ y m. h y (List·Memᴰ·tail m)))
 
 -- a cost that stands beside a period, times a count
 pub charge-high : {periods costs : List ℕ} {highest count i most : ℕ} → Beside periods highest costs → count ≤ most → i < length periods

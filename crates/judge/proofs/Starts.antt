@@ -10,7 +10,7 @@ use Rattle.rules.specs.Judgement.{misses}
 use Rattle.judge.specs.declared.Applied.{Applied}
 use Rattle.judge.specs.declared.Climbed.{Climbed}
 use Rattle.judge.specs.Terms.{Terms, timeOf, applied}
-use Rattle.judge.specs.Run.{startFrom, answerOf, isHigh, climbed, Judgeable, Begun}
+use Rattle.judge.specs.Run.{startFrom, answerOf, isHigh, climbed, Ready, Begun}
 use Rattle.judge.proofs.Rises.{time-is}
 
 module _ (m : Terms) (deadline given : ℕ) {start : ℕ} {first : Applied} (raised : start ≡ startFrom m given) (is : first ≡ applied m start) where
@@ -18,7 +18,7 @@ module _ (m : Terms) (deadline given : ℕ) {start : ℕ} {first : Applied} (rai
   unfolding climbed isHigh
   lowered h = let q : timeOf m (startFrom m given) < startFrom m given = rw raised at (rw (time-is m start is) at h) in rw (lt-ltb _ _ q)
 
-  pub begins : Judgeable m deadline given → start ≤ first .time → Judgeable m deadline start × Begun m start first
+  pub begins : Ready m deadline given → start ≤ first .time → Ready m deadline start × Begun m start first
   begins ok h =
       (record {
         fair = ok .fair;

@@ -31,7 +31,7 @@ climbed m deadline given =
     record { high = isHigh m given; answer = cond (isHigh m given) (misses 0) answer }
 
 -- the terms of an accepted task, with its deadline and a start that is not above it
-pub record Judgeable (m : Terms) (deadline given : ℕ) : Type 0 where
+pub record Ready (m : Terms) (deadline given : ℕ) : Type 0 where
   pub fair : Fair m
   pub exec-low : 1 ≤ m .own .exec
   pub exec-high : m .own .exec ≤ deadline

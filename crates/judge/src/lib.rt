@@ -6,7 +6,7 @@ ghost use lib.ListN.{getD};
 ghost use Prim.Native.Nat.{ℕ, _+_, _*_, _^_, _≤_, _<_, min, max};
 ghost use Rattle.rules.specs.Sound.{Within, Sound};
 ghost use Rattle.judge.specs.Terms.{Counted, Higher, Demanded, Away, Delayed, Fair, termsOf, applied};
-ghost use Rattle.judge.specs.Run.{Judgeable, Begun, answerOf, climbed};
+ghost use Rattle.judge.specs.Run.{Ready, Begun, answerOf, climbed};
 ghost use Rattle.judge.specs.Columns.{OneIf, Aligned, HigherGathered, Weighable, loadsBy, Reachable, AwayGathered, Placed, termsAt, Room, Filled};
 
 use rules::{Answer, Delay, Picos, Table, Verdict};
@@ -136,7 +136,7 @@ fn climb(
     start: u64,
     first: Applied,
 ) -> Answer
-    requires { ⌜ Judgeable (termsOf own (now periods) (now execs) (now asks) (now away) (now loads)) deadline start ⌝ }
+    requires { ⌜ Ready (termsOf own (now periods) (now execs) (now asks) (now away) (now loads)) deadline start ⌝ }
     requires { ⌜ Begun (termsOf own (now periods) (now execs) (now asks) (now away) (now loads)) start first ⌝ }
     ensures { λ r. ⌜ r ≡ answerOf (termsOf own (now (periods .entry)) (now (execs .entry)) (now (asks .entry)) (now (away .entry)) (now (loads .entry))) deadline start ⌝ }
 {
@@ -182,7 +182,7 @@ fn settle(
     deadline: u64,
     given: u64,
 ) -> Climbed
-    requires { ⌜ Judgeable (termsOf own (now periods) (now execs) (now asks) (now away) (now loads)) deadline given ⌝ }
+    requires { ⌜ Ready (termsOf own (now periods) (now execs) (now asks) (now away) (now loads)) deadline given ⌝ }
     ensures { λ r. ⌜ r ≡ climbed (termsOf own (now (periods .entry)) (now (execs .entry)) (now (asks .entry)) (now (away .entry)) (now (loads .entry))) deadline given ⌝ }
 {
     let start = larger(own.exec, given);
@@ -292,7 +292,7 @@ fn judge_at(
     start: u64,
 ) -> Climbed
     requires { ⌜ Placed k (now cores) (now periods) (now execs) (now deadlines) (now requests) (now weight) ⌝ }
-    requires { ⌜ Judgeable (termsAt k (now cores) (now periods) (now execs) (now requests) delay (now weight)) (getD (now deadlines) k 0) start ⌝ }
+    requires { ⌜ Ready (termsAt k (now cores) (now periods) (now execs) (now requests) delay (now weight)) (getD (now deadlines) k 0) start ⌝ }
     ensures { λ r. ⌜ r ≡ climbed (termsAt k (now (cores .entry)) (now (periods .entry)) (now (execs .entry)) (now (requests .entry)) delay (now (weight .entry))) (getD (now (deadlines .entry)) k 0) start ⌝ }
 {
     let core = cores[k];
