@@ -8,6 +8,7 @@
 --     Column     a column of the tasks, place by place
 --     Rules      the terms' F, deciding delay and answer are the rules'
 --     Sound      the terms of a task of a sound table are fair
+--     Table      the columns of a sound table give the terms of its tasks
 pub mod Quotients
 pub mod Sides
 pub mod Cut
@@ -17,3 +18,4 @@ pub mod Gather
 pub mod Column
 pub mod Rules
 pub mod Sound
+pub mod Table

@@ -1,13 +1,13 @@
 -- Sums over two lists side by side, as a loop makes them and as the rules have them; and what every member is. Assumes nothing.
 use mathlib.Core.Path.{_≡_, refl}
-use mathlib.Core.List.{List, [], _∷_, map, List·Memᴰ, List·Memᴰ·head, List·Memᴰ·tail}
-use Prim.Native.Nat.{ℕ, zero, suc, _+_, _*_, _≤_, _<_, zero-le}
+use mathlib.Core.List.{List, [], _∷_, _++_, map, List·Memᴰ, List·Memᴰ·head, List·Memᴰ·tail}
+use Prim.Native.Nat.{ℕ, zero, suc, _+_, _-_, _*_, _≤_, _<_, zero-le}
 use native.Mathlib.Nat.{not-suc-le-zero, le-of-suc-le-suc, mul-le-mul}
 use native.Mathlib.Numerals.{add-one}
 use native.Mathlib.Omega.{arith}
-use lib.ListN.{length, take, getD}
+use lib.ListN.{length, take, getD, replicate}
 use lib.Seq.{take-all}
-use Rattle.rules.specs.Idioms.{sumOver}
+use Rattle.rules.specs.Idioms.{sumOver, filled}
 use Rattle.judge.specs.Terms.{sumBoth, Each, none, more, Beside}
 
 module _ (f : ℕ → ℕ → ℕ) where
@@ -56,6 +56,18 @@ module _ {P : ℕ → Type 0} where
 pub each-map : {A : Type 0} {P : ℕ → Type 0} (f : A → ℕ) (l : List A) → ((x : A) → List·Memᴰ x l → P (f x)) → Each P (map f l)
 each-map f [] h = none
 each-map f (x ∷ l) h = more (h x (List·Memᴰ·head refl)) (each-map f l (λ y m. h y (List·Memᴰ·tail m)))
+
+-- and of a list that fills so many places, the others 0
+each-append : {P : ℕ → Type 0} {xs ys : List ℕ} → Each P xs → Each P ys → Each P (xs ++ ys)
+each-append none e = e
+each-append (more p d) e = more p (each-append d e)
+
+each-zero : {P : ℕ → Type 0} (n : ℕ) → P 0 → Each P (replicate n 0)
+each-zero zero p = none
+each-zero (suc n) p = more p (each-zero n p)
+
+pub each-filled : {P : ℕ → Type 0} (n : ℕ) {xs : List ℕ} → Each P xs → P 0 → Each P (filled n 0 xs)
+each-filled n {xs} e p = each-append e (each-zero (n - length xs) p)
 
 -- a cost that stands beside a period, times a count
 pub charge-high : {periods costs : List ℕ} {highest count i most : ℕ} → Beside periods highest costs → count ≤ most → i < length periods

@@ -19,7 +19,7 @@ use Rattle.judge.specs.Run.{Ready}
 use Rattle.judge.specs.Numbered.{loadOn, termsFor}
 use Rattle.judge.proofs.Sides.{each-map}
 
-those-few : {A : Type 0} (p : A → Bool) (l : List A) → length (those p l) ≤ length l
+pub those-few : {A : Type 0} (p : A → Bool) (l : List A) → length (those p l) ≤ length l
 those-few p [] = zero-le
 those-few p (x ∷ l) = go (p x) (those-few p l)
   where
@@ -48,7 +48,7 @@ module _ (t : Table) (s : Sound t) where
     each = each-map (loadOn t p) l (λ j m. mul-le-mul (sound j m .H-high) (weight-bounded t s p (j .core)));
   }
 
-  first-few : (n : ℕ) → n ≤ 32 → length (take n (t .task)) ≤ 32
+  pub first-few : (n : ℕ) → n ≤ 32 → length (take n (t .task)) ≤ 32
   first-few n h = rw length-take (omega arith)
 
   module _ (k : ℕ) (low : 1 ≤ k) (high : k ≤ t .tasks) where
