@@ -9,6 +9,7 @@
 --     Rules      the terms' F, deciding delay and answer are the rules'
 --     Sound      the terms of a task of a sound table are fair
 --     Table      the columns of a sound table give the terms of its tasks
+--     Filled     a call of `judge_at` on the columns of a sound table
 pub mod Quotients
 pub mod Sides
 pub mod Cut
@@ -19,3 +20,4 @@ pub mod Column
 pub mod Rules
 pub mod Sound
 pub mod Table
+pub mod Filled

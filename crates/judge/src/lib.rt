@@ -5,6 +5,8 @@ ghost use lib.Dec.{eqb};
 ghost use lib.ListN.{getD};
 ghost use Prim.Native.Nat.{ℕ, _+_, _*_, _^_, _≤_, _<_, min, max};
 ghost use Rattle.rules.specs.Sound.{Within, Sound};
+ghost use Rattle.rules.specs.Tasks.{D, taskOf};
+ghost use Rattle.judge.specs.Numbered.{climbedFor};
 ghost use Rattle.judge.specs.Terms.{Counted, Higher, Demanded, Away, Delayed, Fair, termsOf, applied};
 ghost use Rattle.judge.specs.Run.{Ready, Begun, answerOf, climbed};
 ghost use Rattle.judge.specs.Columns.{OneIf, Aligned, HigherGathered, Weighable, loadsBy, Reachable, AwayGathered, Placed, termsAt, Room, Filled};
@@ -335,4 +337,33 @@ fn columns(
         requests[i] = task.requests as u64;
         i += 1;
     }
+}
+
+// Task number k of an accepted table, from a start that is not above its deadline.
+fn judge_task(table: Table, k: u8, start: u64) -> Climbed
+    requires { ⌜ Sound table ⌝ }
+    requires { ⌜ Within 1 (table .tasks) k × (start ≤ D (taskOf table k)) ⌝ }
+    ensures { λ r. ⌜ r ≡ climbedFor table k start ⌝ }
+{
+    let mut cores = [0u8; 32];
+    let mut periods = [0u64; 32];
+    let mut execs = [0u64; 32];
+    let mut deadlines = [0u64; 32];
+    let mut requests = [0u64; 32];
+    columns(table, &mut cores, &mut periods, &mut execs, &mut deadlines, &mut requests);
+    let n = table.tasks as usize;
+    let i = (k as usize) - 1;
+    let costs = board::core_costs(table, cores[i]);
+    let weight = costs.weight;
+    judge_at(
+        i,
+        &cores[..n],
+        &periods[..n],
+        &execs[..n],
+        &deadlines[..n],
+        &requests[..n],
+        costs.request,
+        &weight,
+        start,
+    )
 }
