@@ -10,6 +10,7 @@
 --     Sound      the terms of a task of a sound table are fair
 --     Table      the columns of a sound table give the terms of its tasks
 --     Filled     a call of `judge_at` on the columns of a sound table
+--     Firsts     the first late start and the first high one
 pub mod Quotients
 pub mod Sides
 pub mod Cut
@@ -21,3 +22,4 @@ pub mod Rules
 pub mod Sound
 pub mod Table
 pub mod Filled
+pub mod Firsts

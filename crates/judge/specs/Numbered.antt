@@ -1,13 +1,15 @@
 -- The terms of task number k of a table, and what judging it from a start gives. Assumes nothing.
 use Prim.Native.Nat.{ℕ, _*_}
 use mathlib.Core.Bool.{cond}
-use mathlib.Core.List.{map}
+use mathlib.Core.List.{List, map}
 use Rattle.rules.specs.declared.Task.{Task}
 use Rattle.rules.specs.declared.Table.{Table}
+use Rattle.rules.specs.declared.Refusal.{Refusal}
+use Rattle.rules.specs.Idioms.{entry}
 use Rattle.rules.specs.Tasks.{C, T, H, taskOf, coreOf, higher, elsewhere}
 use Rattle.rules.specs.Dram.{RD}
 use Rattle.rules.specs.Judgement.{misses, judge}
-use Rattle.rules.specs.Refusals.{highStart}
+use Rattle.rules.specs.Refusals.{first, lateStart, highStart}
 use Rattle.rules.proofs.Weights.{weight}
 use Rattle.judge.specs.declared.Climbed.{Climbed}
 use Rattle.judge.specs.Terms.{Terms, termsOf}
@@ -31,3 +33,12 @@ unfoldable pub climbedFor : Table → ℕ → ℕ → Climbed
 climbedFor t k start =
     let answer = judge t k start in
     record { high = highStart t k start; answer = cond (highStart t k start) (misses 0) answer }
+
+-- ---- all tasks
+
+-- 13, and 14, with the first task at fault
+unfoldable pub firstLate : Table → List ℕ → Refusal
+firstLate t starts = first 13 (λ k. lateStart t k (entry 0 starts k)) (t .tasks)
+
+unfoldable pub firstHigh : Table → List ℕ → Refusal
+firstHigh t starts = first 14 (λ k. highStart t k (entry 0 starts k)) (t .tasks)

@@ -6,12 +6,12 @@ ghost use lib.ListN.{getD};
 ghost use Prim.Native.Nat.{ℕ, _+_, _*_, _^_, _≤_, _<_, min, max};
 ghost use Rattle.rules.specs.Sound.{Within, Sound};
 ghost use Rattle.rules.specs.Tasks.{D, taskOf};
-ghost use Rattle.judge.specs.Numbered.{climbedFor};
+ghost use Rattle.judge.specs.Numbered.{climbedFor, firstLate};
 ghost use Rattle.judge.specs.Terms.{Counted, Higher, Demanded, Away, Delayed, Fair, termsOf, applied};
 ghost use Rattle.judge.specs.Run.{Ready, Begun, answerOf, climbed};
 ghost use Rattle.judge.specs.Columns.{OneIf, Aligned, HigherGathered, Weighable, loadsBy, Reachable, AwayGathered, Placed, termsAt, Room, Filled};
 
-use rules::{Answer, Delay, Picos, Table, Verdict};
+use rules::{Answer, Delay, Picos, Refusal, Table, Verdict};
 
 // "t/T rounded up"
 fn up(t: u64, period: u64) -> u64
@@ -366,4 +366,27 @@ fn judge_task(table: Table, k: u8, start: u64) -> Climbed
         &weight,
         start,
     )
+}
+
+// 13 for the first start that is above its deadline.
+fn late(table: Table, starts: [u64; 32]) -> Refusal
+    requires { ⌜ Sound table ⌝ }
+    ensures { λ r. ⌜ r ≡ firstLate table starts ⌝ }
+{
+    let n = table.tasks as usize;
+    let mut i: usize = 0;
+    while i < n {
+        let task = table.task[i];
+        if task.deadline.0 < starts[i] {
+            return Refusal {
+                number: 13,
+                place: (i as u8) + 1,
+            };
+        }
+        i += 1;
+    }
+    Refusal {
+        number: 0,
+        place: 0,
+    }
 }
