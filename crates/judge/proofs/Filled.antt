@@ -1,21 +1,41 @@
 -- A call of `judge_at` on the columns of a sound table: what it requires, and what it gives. Assumes nothing.
-use mathlib.Core.Path.{_≡_, sym, _∙_}
-use mathlib.Core.List.{List}
-use Prim.Native.Nat.{ℕ, _+_, _≤_, _<_}
+use mathlib.Core.Path.{_≡_, refl, sym, _∙_}
+use mathlib.Core.List.{List, [], _∷_, map}
+use Prim.Native.Nat.{ℕ, zero, suc, _+_, _-_, _≤_, _<_}
+use native.Mathlib.Nat.{not-suc-le-zero, le-of-suc-le-suc}
 use native.Mathlib.Omega.{arith}
-use lib.ListN.{take, getD}
+use lib.ListN.{length, length-append, length-map, length-replicate, take, getD}
 use lib.Seq.{getD-take}
 use Rattle.rules.specs.declared.Table.{Table}
+use Rattle.rules.specs.Idioms.{filled, upTo, entry}
 use Rattle.rules.specs.Tasks.{D, taskOf, coreOf}
 use Rattle.rules.specs.Sound.{Within, Sound}
 use Rattle.board.specs.declared.CoreCosts.{CoreCosts}
-use Rattle.board.specs.Costs.{costsOf}
+use Rattle.board.specs.Costs.{costsOf, noCosts}
+use Rattle.board.proofs.Places.{from-length, place-of}
 use Rattle.judge.specs.Run.{Ready, climbed}
 use Rattle.judge.specs.Columns.{termsAt, Placed, Filled}
 use Rattle.judge.specs.Numbered.{climbedFor}
 use Rattle.judge.proofs.Rules.{climbed-same}
 use Rattle.judge.proofs.Sound.{ready-for}
-use Rattle.judge.proofs.Table.{column-at, placed, terms-at}
+use Rattle.judge.proofs.Table.{column-at, weights-fit, placed, terms-at}
+
+-- the costs of a core among those of all, whatever stands for a place beyond them
+getD-within : {A : Type 0} (l : List A) (i : ℕ) (d e : A) → i < length l → getD l i d ≡ getD l i e
+getD-within [] i d e h = absurd (not-suc-le-zero h)
+getD-within (x ∷ l) zero d e h = refl
+getD-within (x ∷ l) (suc i) d e h = getD-within l i d e (le-of-suc-le-suc h)
+
+pub cost-at : (t : Table) → Sound t → {all : List CoreCosts} → all ≡ filled 8 noCosts (map (costsOf t) (upTo (t .cores)))
+    → {p : ℕ} → Within 1 (t .cores) p → (d : CoreCosts) → entry d all p ≡ costsOf t p
+cost-at t s e {p} there d =
+    let every = filled 8 noCosts (map (costsOf t) (upTo (t .cores))) in
+    let long : length every ≡ 8 = rw (length-append, length-replicate, length-map, from-length) (omega (arith, s .cores-in .high)) in
+    rw (e, getD-within every (p - 1) d noCosts (omega (arith, there .high, s .cores-in .high)))
+    (place-of noCosts (costsOf t) 8 (t .cores) p (there .low) (there .high))
+
+pub eight-weights : (t : Table) → Sound t → (p : ℕ) {c : CoreCosts} → c ≡ costsOf t p → 8 ≡ length (c .weight)
+eight-weights t s p e = rw e (sym (weights-fit t s p .eight))
 
 module _ (t : Table) (s : Sound t) {cores periods execs deadlines requests : List ℕ} (f : Filled t cores periods execs deadlines requests)
     (i : ℕ) (here : i < t .tasks) where

@@ -100,7 +100,7 @@ module _ (t : Table) (s : Sound t) where
         column-at H i here,
       )
 
-  weights-fit : (p : ℕ) → Weights (costsOf t p .weight)
+  pub weights-fit : (p : ℕ) → Weights (costsOf t p .weight)
   unfolding costsOf
   weights-fit p = record {
     eight = rw (length-append, length-replicate, length-map, from-length) (omega (arith, s .cores-in .high));

@@ -5,11 +5,13 @@ use mathlib.Core.List.{List, map}
 use Rattle.rules.specs.declared.Task.{Task}
 use Rattle.rules.specs.declared.Table.{Table}
 use Rattle.rules.specs.declared.Refusal.{Refusal}
+use Rattle.rules.specs.declared.AllJudged.{AllJudged}
 use Rattle.rules.specs.Idioms.{entry}
 use Rattle.rules.specs.Tasks.{C, T, H, taskOf, coreOf, higher, elsewhere}
 use Rattle.rules.specs.Dram.{RD}
 use Rattle.rules.specs.Judgement.{misses, judge}
-use Rattle.rules.specs.Refusals.{first, lateStart, highStart}
+use Rattle.rules.specs.Refusals.{isAccepted, first, lateStart, highStart}
+use Rattle.rules.specs.Operations.{answersFrom, noAnswers}
 use Rattle.rules.proofs.Weights.{weight}
 use Rattle.judge.specs.declared.Climbed.{Climbed}
 use Rattle.judge.specs.Terms.{Terms, termsOf}
@@ -42,3 +44,12 @@ firstLate t starts = first 13 (λ k. lateStart t k (entry 0 starts k)) (t .tasks
 
 unfoldable pub firstHigh : Table → List ℕ → Refusal
 firstHigh t starts = first 14 (λ k. highStart t k (entry 0 starts k)) (t .tasks)
+
+unfoldable pub noneJudged : Refusal → AllJudged
+noneJudged r = record { refusal = r; answers = noAnswers }
+
+-- where no start is late
+unfoldable pub judgedTasks : Table → List ℕ → AllJudged
+judgedTasks t starts =
+    let answers = answersFrom t (entry 0 starts) in
+    record { refusal = firstHigh t starts; answers = cond (isAccepted (firstHigh t starts)) answers noAnswers }

@@ -1,17 +1,19 @@
 // Judgement of tasks: F without overflow, its rounds, one task and all.
 ghost use mathlib.Core.Path.{_≡_};
-ghost use mathlib.Core.Bool.{not};
+ghost use mathlib.Core.Bool.{true, not};
 ghost use lib.Dec.{eqb};
 ghost use lib.ListN.{getD};
 ghost use Prim.Native.Nat.{ℕ, _+_, _*_, _^_, _≤_, _<_, min, max};
 ghost use Rattle.rules.specs.Sound.{Within, Sound};
 ghost use Rattle.rules.specs.Tasks.{D, taskOf};
-ghost use Rattle.judge.specs.Numbered.{climbedFor, firstLate};
+ghost use Rattle.rules.specs.Judgement.{misses};
+ghost use Rattle.rules.specs.Refusals.{isAccepted};
+ghost use Rattle.judge.specs.Numbered.{climbedFor, firstLate, noneJudged, judgedTasks};
 ghost use Rattle.judge.specs.Terms.{Counted, Higher, Demanded, Away, Delayed, Fair, termsOf, applied};
 ghost use Rattle.judge.specs.Run.{Ready, Begun, answerOf, climbed};
 ghost use Rattle.judge.specs.Columns.{OneIf, Aligned, HigherGathered, Weighable, loadsBy, Reachable, AwayGathered, Placed, termsAt, Room, Filled};
 
-use rules::{Answer, Delay, Picos, Refusal, Table, Verdict};
+use rules::{AllJudged, Answer, Delay, Picos, Refusal, Table, Verdict};
 
 // "t/T rounded up"
 fn up(t: u64, period: u64) -> u64
@@ -388,5 +390,76 @@ fn late(table: Table, starts: [u64; 32]) -> Refusal
     Refusal {
         number: 0,
         place: 0,
+    }
+}
+
+fn missed() -> Answer
+    ensures { λ r. ⌜ r ≡ misses 0 ⌝ }
+{
+    Answer {
+        verdict: Verdict::Misses,
+        rounds: 0,
+    }
+}
+
+// A refused judgement of all.
+fn none_judged(refusal: Refusal) -> AllJudged
+    ensures { λ r. ⌜ r ≡ noneJudged refusal ⌝ }
+{
+    let miss = missed();
+    let answers = [miss; 32];
+    AllJudged {
+        refusal,
+        answers,
+    }
+}
+
+// Every task of an accepted table, from starts that are not above the deadlines: 14 with the first whose start F lowers, or the answers.
+fn judge_tasks(table: Table, starts: [u64; 32]) -> AllJudged
+    requires { ⌜ Sound table ⌝ }
+    requires { ⌜ isAccepted (firstLate table starts) ≡ true ⌝ }
+    ensures { λ r. ⌜ r ≡ judgedTasks table starts ⌝ }
+{
+    let mut cores = [0u8; 32];
+    let mut periods = [0u64; 32];
+    let mut execs = [0u64; 32];
+    let mut deadlines = [0u64; 32];
+    let mut requests = [0u64; 32];
+    columns(table, &mut cores, &mut periods, &mut execs, &mut deadlines, &mut requests);
+    let costs = board::all_costs(table);
+    let n = table.tasks as usize;
+    let miss = missed();
+    let mut answers = [miss; 32];
+    let mut i: usize = 0;
+    while i < (table.tasks as usize) {
+        let core = costs[(cores[i] as usize) - 1];
+        let weight = core.weight;
+        let climbed = judge_at(
+            i,
+            &cores[..n],
+            &periods[..n],
+            &execs[..n],
+            &deadlines[..n],
+            &requests[..n],
+            core.request,
+            &weight,
+            starts[i],
+        );
+        if climbed.high {
+            return none_judged(Refusal {
+                number: 14,
+                place: (i as u8) + 1,
+            });
+        }
+        let answer = climbed.answer;
+        answers[i] = answer;
+        i += 1;
+    }
+    AllJudged {
+        refusal: Refusal {
+            number: 0,
+            place: 0,
+        },
+        answers,
     }
 }
