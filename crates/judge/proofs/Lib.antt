@@ -11,6 +11,7 @@
 --     Table      the columns of a sound table give the terms of its tasks
 --     Filled     a call of `judge_at` on the columns of a sound table
 --     Firsts     the first late start and the first high one
+--     Every      a test of every place, as a loop makes it
 pub mod Quotients
 pub mod Sides
 pub mod Cut
@@ -23,3 +24,4 @@ pub mod Sound
 pub mod Table
 pub mod Filled
 pub mod Firsts
+pub mod Every

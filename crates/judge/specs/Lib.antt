@@ -3,7 +3,9 @@
 --     Run      what its rounds give from a start
 --     Columns  the tasks of a table as plain columns, and what is gathered of them for one task
 --     Numbered the terms of a task of a table, and what judging it gives
+--     Same     two tables alike, place by place
 pub mod Terms
 pub mod Run
 pub mod Columns
 pub mod Numbered
+pub mod Same

@@ -2,18 +2,20 @@
 ghost use mathlib.Core.Path.{_≡_};
 ghost use mathlib.Core.Bool.{true, not};
 ghost use lib.Dec.{eqb};
-ghost use lib.ListN.{getD};
+ghost use lib.ListN.{length, getD};
 ghost use Prim.Native.Nat.{ℕ, _+_, _*_, _^_, _≤_, _<_, min, max};
 ghost use Rattle.rules.specs.Sound.{Within, Sound};
 ghost use Rattle.rules.specs.Tasks.{D, taskOf};
 ghost use Rattle.rules.specs.Judgement.{misses};
+ghost use Rattle.rules.specs.Order.{worseTask};
+ghost use Rattle.judge.specs.Same.{alikeTo};
 ghost use Rattle.rules.specs.Refusals.{isAccepted};
 ghost use Rattle.judge.specs.Numbered.{climbedFor, firstLate, noneJudged, judgedTasks};
 ghost use Rattle.judge.specs.Terms.{Counted, Higher, Demanded, Away, Delayed, Fair, termsOf, applied};
 ghost use Rattle.judge.specs.Run.{Ready, Begun, answerOf, climbed};
 ghost use Rattle.judge.specs.Columns.{OneIf, Aligned, HigherGathered, Weighable, loadsBy, Reachable, AwayGathered, Placed, termsAt, Room, Filled};
 
-use rules::{AllJudged, Answer, Delay, Picos, Refusal, Table, Verdict};
+use rules::{AllJudged, Answer, Delay, Picos, Refusal, Table, Task, Verdict};
 
 // "t/T rounded up"
 fn up(t: u64, period: u64) -> u64
@@ -462,4 +464,41 @@ fn judge_tasks(table: Table, starts: [u64; 32]) -> AllJudged
         },
         answers,
     }
+}
+
+// The same task with C and H as they were or raised, and T as it was or shortened.
+fn worse_task(i: Task, j: Task) -> bool
+    ensures { λ r. ⌜ r ≡ worseTask i j ⌝ }
+{
+    if i.core != j.core {
+        return false;
+    }
+    if i.deadline.0 != j.deadline.0 {
+        return false;
+    }
+    if j.exec.0 < i.exec.0 {
+        return false;
+    }
+    if j.requests < i.requests {
+        return false;
+    }
+    j.period.0 <= i.period.0
+}
+
+// Places 1 to n of two lists are equal; a place beyond both is.
+fn alike(n: usize, a: &[u16], b: &[u16]) -> bool
+    requires { ⌜ length (now a) ≡ length (now b) ⌝ }
+    ensures { λ r. ⌜ r ≡ alikeTo n (now (a .entry)) (now (b .entry)) ⌝ }
+{
+    let mut i: usize = 0;
+    while i < n {
+        if a.len() <= i {
+            return true;
+        }
+        if a[i] != b[i] {
+            return false;
+        }
+        i += 1;
+    }
+    true
 }

@@ -1,0 +1,10 @@
+-- Two tables alike, place by place. Assumes nothing.
+use Prim.Native.Nat.{ℕ}
+use mathlib.Core.Bool.{Bool}
+use mathlib.Core.List.{List}
+use lib.Dec.{eqb}
+use Rattle.rules.specs.Idioms.{every, upTo, entry}
+
+-- places 1 to n
+unfoldable pub alikeTo : ℕ → List ℕ → List ℕ → Bool
+alikeTo n a b = every (λ k. eqb (entry 0 a k) (entry 0 b k)) (upTo n)
