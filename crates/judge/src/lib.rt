@@ -7,8 +7,9 @@ ghost use Prim.Native.Nat.{ℕ, _+_, _*_, _^_, _≤_, _<_, min, max};
 ghost use Rattle.rules.specs.Sound.{Within, Sound};
 ghost use Rattle.rules.specs.Tasks.{D, taskOf};
 ghost use Rattle.rules.specs.Judgement.{misses};
-ghost use Rattle.rules.specs.Order.{worseTask};
-ghost use Rattle.judge.specs.Same.{alikeTo};
+ghost use Rattle.rules.specs.Order as Order;
+ghost use Rattle.rules.specs.Order.{worseTask, sameBoard};
+ghost use Rattle.judge.specs.Same.{alikeTo, allWorse};
 ghost use Rattle.rules.specs.Refusals.{isAccepted};
 ghost use Rattle.judge.specs.Numbered.{climbedFor, firstLate, noneJudged, judgedTasks};
 ghost use Rattle.judge.specs.Terms.{Counted, Higher, Demanded, Away, Delayed, Fair, termsOf, applied};
@@ -501,4 +502,60 @@ fn alike(n: usize, a: &[u16], b: &[u16]) -> bool
         i += 1;
     }
     true
+}
+
+// The counts, the timing figures and the used sets are the same.
+fn same_board(a: Table, b: Table) -> bool
+    ensures { λ r. ⌜ r ≡ sameBoard a b ⌝ }
+{
+    if a.cores != b.cores {
+        return false;
+    }
+    if a.partitions != b.partitions {
+        return false;
+    }
+    if a.tasks != b.tasks {
+        return false;
+    }
+    if a.fourth != b.fourth {
+        return false;
+    }
+    let row = a.timing;
+    let other = b.timing;
+    if !alike(15, &row, &other) {
+        return false;
+    }
+    let sets = a.sets;
+    let others = b.sets;
+    alike(a.cores as usize, &sets, &others)
+}
+
+// Every task of the older table is the same in the newer one, or worse.
+fn worse_tasks(older: Table, newer: Table) -> bool
+    ensures { λ r. ⌜ r ≡ allWorse older newer ⌝ }
+{
+    let n = older.tasks as usize;
+    let mut i: usize = 0;
+    while i < n {
+        if 32 <= i {
+            return true;
+        }
+        let was = older.task[i];
+        let is = newer.task[i];
+        if !worse_task(was, is) {
+            return false;
+        }
+        i += 1;
+    }
+    true
+}
+
+// "Two accepted tables alike but that the newer may raise execution times and request counts and shorten periods."
+pub fn worsens(older: Table, newer: Table) -> bool
+    ensures { λ r. ⌜ r ≡ Order.worsens older newer ⌝ }
+{
+    if !same_board(older, newer) {
+        return false;
+    }
+    worse_tasks(older, newer)
 }
