@@ -1,6 +1,6 @@
 -- The weight of a core's request from the bits of near and far cores, and RD from the weights. Assumes nothing.
 use mathlib.Core.Path.{_≡_, refl, ap, fun-ext}
-use mathlib.Core.Bool.{Bool, true, false, cond, not, and-comm, _&&_}
+use mathlib.Core.Bool.{Bool, true, false, cond, and-comm, _&&_}
 use mathlib.Core.List.{List, [], _∷_}
 use Prim.Native.Nat.{ℕ, _+_, _*_, _-_, _/_, _%_, _^_, _≤_}
 use native.Mathlib.Nat.{mul-le-mul}
@@ -14,14 +14,14 @@ use lib.ListN.{length}
 use Rattle.rules.specs.declared.Table.{Table}
 use Rattle.rules.specs.Idioms.{sumOver, those, some, upTo, below, entry}
 use Rattle.rules.specs.Timing.{Row}
-use Rattle.rules.specs.Cores.{bit, share, setOf, isNear, isFar, near, far}
+use Rattle.rules.specs.Cores.{bit, share, setOf, isNear, isFar, near}
 use Rattle.rules.specs.Sound.{SoundRow}
 use Rattle.rules.specs.Dram.{crossing, conflict}
 use Rattle.rules.proofs.Weights.{weight}
 use Rattle.timing.specs.declared.Figures.{Figures}
 use Rattle.timing.specs.Figures.{figuresOf, FiguresBounded}
 use Rattle.timing.proofs.Bounds.{bounded}
-use Rattle.board.specs.Masks.{asBit, mask, besides, farMasks}
+use Rattle.board.specs.Masks.{asBit, mask, farMasks}
 use Rattle.board.specs.Costs.{Shows}
 use Rattle.board.proofs.Places.{place-of}
 use Rattle.board.proofs.Masks.{mask-ones, mask-bit, mask-and}
@@ -88,7 +88,8 @@ module _ (t : Table) (p q : ℕ) where
 
 module _ {p nears : ℕ} {fars : List ℕ} {f : Figures} {t : Table} (s : Shows p nears fars f t) where
   pub fars-at : (q : ℕ) → 1 ≤ q → q ≤ t .cores → entry 0 fars q ≡ mask (isFar t q) (t .cores)
-  fars-at q low high = rw (s .far-is) (place-of 0 (λ r. mask (isFar t r) (t .cores)) 8 (t .cores) q low high)
+  unfolding farMasks
+  fars-at q low high = rw (s .far-are) (place-of 0 (λ r. mask (isFar t r) (t .cores)) 8 (t .cores) q low high)
 
   crossing-is : f .crossing .0 ≡ crossing t .0
   unfolding figuresOf crossing
@@ -106,12 +107,6 @@ module _ {p nears : ℕ} {fars : List ℕ} {f : Figures} {t : Table} (s : Shows 
 pub charge-high : {f : Figures} → FiguresBounded f → (n k : ℕ) → n ≤ 9 → k ≤ 1 → n * f .crossing .0 + k * f .conflict .0 ≤ 3 * 10 ^ 7
 charge-high b n k few one =
     omega (arith, mul-le-mul {n₂ = 9} {m₂ = 390 * 5000} few (b .crossing-high), mul-le-mul {n₂ = 1} {m₂ = 516 * 5000} one (b .conflict-high))
-
--- what the functions give of a table's cores, sets and figures shows that table
-pub shows : (t : Table) {p nears : ℕ} {fars : List ℕ} {f : Figures} → nears ≡ mask (besides true (t .sets) p) (t .cores)
-    → fars ≡ farMasks (t .cores) (t .sets) → f ≡ figuresOf (t .timing) → Shows p nears fars f t
-unfolding farMasks
-shows t n r e = record { near-is = n; far-is = r; figures-are = e }
 
 pub small : {w : Row} {f : Figures} → SoundRow w → f ≡ figuresOf w → FiguresBounded f
 small {w} s e = rw e (bounded w s)

@@ -19,10 +19,10 @@ maskFrom test a (suc n) = asBit (test a) + 2 * maskFrom test (a + 1) n
 abbrev pub mask : (ℕ → Bool) → ℕ → ℕ
 mask test n = maskFrom test 1 n
 
--- isNear of the rules, by the sets alone, and isFar
-abbrev pub besides : Bool → List ℕ → ℕ → ℕ → Bool
-besides near sets p q = not (eqb q p) && cond near (share (entry 0 sets p) (entry 0 sets q)) (not (share (entry 0 sets p) (entry 0 sets q)))
+-- isNear of the rules, or isFar, by the sets alone
+abbrev pub onSide : Bool → List ℕ → ℕ → ℕ → Bool
+onSide near sets p q = not (eqb q p) && cond near (share (entry 0 sets p) (entry 0 sets q)) (not (share (entry 0 sets p) (entry 0 sets q)))
 
 -- for each core the cores far from it
 unfoldable pub farMasks : ℕ → List ℕ → List ℕ
-farMasks cores sets = filled 8 0 (map (λ p. mask (besides false sets p) cores) (upTo cores))
+farMasks cores sets = filled 8 0 (map (λ p. mask (onSide false sets p) cores) (upTo cores))

@@ -1,6 +1,6 @@
 // Near and far from the sets of partitions, and what a request of each core costs: the rules of "Delay figures" by cores, as numbers.
 ghost use mathlib.Core.Path.{_≡_};
-ghost use Prim.Native.Nat.{ℕ, _-_, _*_, _/_, _%_, _^_, _≤_};
+ghost use Prim.Native.Nat.{_-_, _*_, _/_, _%_, _^_, _≤_};
 ghost use mathlib.Core.List.{map};
 ghost use lib.Count.{ones};
 ghost use Rattle.rules.specs.declared.Table.{Table};
@@ -9,7 +9,7 @@ ghost use Rattle.rules.specs.Cores.{share};
 ghost use Rattle.rules.specs.Sound.{Sound};
 ghost use Rattle.rules.proofs.Weights.{weight};
 ghost use Rattle.timing.specs.Figures.{FiguresBounded};
-ghost use Rattle.board.specs.Masks.{asBit, mask, besides, farMasks};
+ghost use Rattle.board.specs.Masks.{asBit, mask, onSide, farMasks};
 ghost use Rattle.board.specs.Costs.{costsOf, noCosts, rowPart, Shows};
 use rules::Table;
 use timing::Figures;
@@ -27,10 +27,10 @@ pub fn shares(a: u16, b: u16) -> bool
     a & b != 0
 }
 
-// Whether core q is near p, or far from it, as a bit.
-fn beside(sets: &[u16; 8], p: usize, q: usize, near: bool) -> u8
+// Whether core q is on the near side of p, or on the far side, as a bit.
+fn on_side(sets: &[u16; 8], p: usize, q: usize, near: bool) -> u8
     requires { ⌜ (1 ≤ p) × (p ≤ 8) × (1 ≤ q) × (q ≤ 8) ⌝ }
-    ensures { λ r. ⌜ (r ≡ asBit (besides near (now (sets .entry)) p q)) × (r ≤ 1) ⌝ }
+    ensures { λ r. ⌜ (r ≡ asBit (onSide near (now (sets .entry)) p q)) × (r ≤ 1) ⌝ }
 {
     if q == p {
         return 0;
@@ -42,15 +42,15 @@ fn beside(sets: &[u16; 8], p: usize, q: usize, near: bool) -> u8
     }
 }
 
-// The cores near p, or far from it, as bits.
+// The cores on the near side of p, or on the far side, as bits.
 fn side(cores: usize, sets: &[u16; 8], p: usize, near: bool) -> u8
     requires { ⌜ (1 ≤ p) × (p ≤ cores) × (cores ≤ 8) ⌝ }
-    ensures { λ r. ⌜ r ≡ mask (besides near (now (sets .entry)) p) cores ⌝ }
+    ensures { λ r. ⌜ r ≡ mask (onSide near (now (sets .entry)) p) cores ⌝ }
 {
     let mut bits: u8 = 0;
     let mut q = cores;
     while 0 < q {
-        bits = bits * 2 + beside(sets, p, q, near);
+        bits = bits * 2 + on_side(sets, p, q, near);
         q -= 1;
     }
     bits
@@ -70,7 +70,7 @@ fn far_sides(cores: usize, sets: &[u16; 8]) -> [u8; 8]
     far
 }
 
-// How many cores the bits name.
+// How many cores the bits stand for.
 fn count(bits: u8) -> u64
     ensures { λ r. ⌜ (r ≡ ones bits) × (r ≤ 8) ⌝ }
 {
@@ -98,7 +98,7 @@ fn weigh(near: u8, far: &[u8; 8], p: usize, q: usize, f: Figures) -> u64
     crossings * f.crossing.0 + conflicts * f.conflict.0
 }
 
-// What a request of core p loses to the rows that near cores close, beside what each of their requests costs: nothing if no core is near.
+// What RD has beside one request of each core: nothing if no core is near.
 fn row_part(near: u8, far: &[u8; 8], p: usize, f: Figures) -> u64
     requires { ⌜ (1 ≤ p) × (p ≤ 8) ⌝ }
     requires { ⌜ FiguresBounded f ⌝ }
@@ -112,7 +112,7 @@ fn row_part(near: u8, far: &[u8; 8], p: usize, f: Figures) -> u64
     f.run.0 + f.window * f.readwrite.0 * others + f.reopen.0
 }
 
-// Both costs of core p. RD is what one request of each core costs, and the row's part.
+// Both costs of core p. RD is what one request of each core costs a job, and the row's part.
 fn costs(cores: usize, near: u8, far: &[u8; 8], p: usize, f: Figures) -> CoreCosts
     requires { ⌜ (1 ≤ p) × (p ≤ cores) × (cores ≤ 8) ⌝ }
     requires { ⌜ FiguresBounded f ⌝ }
@@ -130,6 +130,7 @@ fn costs(cores: usize, near: u8, far: &[u8; 8], p: usize, f: Figures) -> CoreCos
     CoreCosts { request, weight }
 }
 
+// The costs of one core.
 pub fn core_costs(t: Table, p: u8) -> CoreCosts
     requires { ⌜ Sound t ⌝ }
     requires { ⌜ (1 ≤ p) × (p ≤ t .cores) ⌝ }

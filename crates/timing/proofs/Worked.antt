@@ -1,8 +1,7 @@
 -- The delay figures as code works them out: differences cut off at zero, and window by its two cases. Assumes nothing.
+use Prim.Native.Nat.{_+_, _*_, _-_, _/_, min, max}
 use mathlib.Core.Path.{_≡_}
-use Prim.Native.Nat.{ℕ, _+_, _*_, _-_, _/_, _≤_, min, max}
-use native.Mathlib.Nat.{sub-zero, mul-le-mul}
-use native.Mathlib.Omega.{arith}
+use native.Mathlib.Nat.{sub-zero}
 use borrow.Author.Tests.{eq-eqb, ne-eqb}
 use Rattle.rules.specs.Timing.{Row, CL, WL, BL, tWTR, tRRD, tFAW, tRTRS, Ncols, Ncap, unknown}
 use Rattle.rules.specs.Units.{cycles}
@@ -34,10 +33,3 @@ module _ (w : Row) where
   pub window-capped : (Ncap w ≡ unknown → ⊥) → window w ≡ min (Ncols w / BL w) (Ncap w)
   unfolding window
   window-capped e = simp (ne-eqb (Ncap w) unknown e)
-
--- at most 65535/2 rounded up, and figures of 16 bits
-pub writes-fit : (m turn : ℕ) → m ≤ 65535 → turn ≤ 163837 → (m + 1) / 2 * turn ≤ 32768 * 163837
-writes-fit m turn h t = mul-le-mul {n₂ = 32768} {m₂ = 163837} (omega arith) t
-
-pub reads-fit : (m cl : ℕ) → m ≤ 65535 → cl ≤ 65535 → m / 2 * cl ≤ 32767 * 65535
-reads-fit m cl h t = mul-le-mul {n₂ = 32767} {m₂ = 65535} (omega arith) t

@@ -1,6 +1,7 @@
 // Document 01's timing row as code: its ranges and relations, and the delay figures, in cycles, then times tCK.
 ghost use mathlib.Core.Path.{_≡_};
-ghost use Prim.Native.Nat.{ℕ, _+_, _-_, _*_, _/_, _%_, _<_, _≤_, _^_, min, max};
+ghost use Prim.Native.Nat.{_+_, _-_, _*_, _/_, _%_, _<_, _≤_, _^_, min, max};
+ghost use lib.ListN.{getD};
 ghost use Rattle.rules.specs.Timing.{tCK, CL, WL, BL, tWTR, ddr3-1333};
 ghost use Rattle.rules.specs.Units.{inTime, _⊕_};
 ghost use Rattle.rules.specs.Delays.{pre, act, readwrite, hit, reopen, conf, run, window};
@@ -47,11 +48,43 @@ pub struct Figures {
     pub window: u64,
 }
 
-// A figure, wide enough that no sum of figures wraps.
-fn wide(x: u16) -> u64
-    ensures { λ r. ⌜ (r ≡ x) × (r ≤ 65535) ⌝ }
+// The places of the figures in a row.
+const TCK: usize = 0;
+
+const TRP: usize = 1;
+
+const TRCD: usize = 2;
+
+const CL: usize = 3;
+
+const WL: usize = 4;
+
+const BL: usize = 5;
+
+const TWTR: usize = 6;
+
+const TWR: usize = 7;
+
+const TRRD: usize = 8;
+
+const TFAW: usize = 9;
+
+const TRAS: usize = 10;
+
+const TRTP: usize = 11;
+
+const TRTRS: usize = 12;
+
+const NCOLS: usize = 13;
+
+const NCAP: usize = 14;
+
+// A figure of a row, wide enough that no sum of figures wraps.
+fn figure(row: [u16; 15], k: usize) -> u64
+    requires { ⌜ k < 15 ⌝ }
+    ensures { λ r. ⌜ (r ≡ getD row k 0) × (r ≤ 65535) ⌝ }
 {
-    x as u64
+    row[k] as u64
 }
 
 // A difference that falls below zero is never the larger of two, so it is cut off at zero and does not wrap.
@@ -87,6 +120,14 @@ fn remainder(a: u64, b: u64) -> u64
     if b == 0 { a } else { a % b }
 }
 
+// A count of at most 65535/2 rounded up, times a sum of figures.
+fn times(a: u64, b: u64) -> u64
+    requires { ⌜ (a ≤ 32768) × (b ≤ 163837) ⌝ }
+    ensures { λ r. ⌜ (r ≡ a * b) × (r ≤ 32768 * 163837) ⌝ }
+{
+    a * b
+}
+
 fn plus(a: Cycles, b: Cycles) -> Cycles
     requires { ⌜ a .0 + b .0 < 2 ^ 64 ⌝ }
     ensures { λ r. ⌜ r ≡ a ⊕ b ⌝ }
@@ -98,7 +139,7 @@ fn plus(a: Cycles, b: Cycles) -> Cycles
 fn turn(row: [u16; 15]) -> u64
     ensures { λ r. ⌜ (r ≡ WL row + BL row / 2 + tWTR row) × (r ≤ 163837) ⌝ }
 {
-    wide(row[4]) + wide(row[5]) / 2 + wide(row[6])
+    figure(row, WL) + figure(row, BL) / 2 + figure(row, TWTR)
 }
 
 // "pre = 1."
@@ -112,8 +153,8 @@ pub fn pre() -> Cycles
 pub fn act(row: [u16; 15]) -> Cycles
     ensures { λ r. ⌜ r ≡ act row ⌝ }
 {
-    let rrd = wide(row[8]);
-    let faw = wide(row[9]);
+    let rrd = figure(row, TRRD);
+    let faw = figure(row, TFAW);
     Cycles(most(rrd, less(faw, 3 * rrd)))
 }
 
@@ -121,10 +162,10 @@ pub fn act(row: [u16; 15]) -> Cycles
 pub fn readwrite(row: [u16; 15]) -> Cycles
     ensures { λ r. ⌜ r ≡ readwrite row ⌝ }
 {
-    let cl = wide(row[3]);
-    let wl = wide(row[4]);
-    let half = wide(row[5]) / 2;
-    let rtrs = wide(row[12]);
+    let cl = figure(row, CL);
+    let wl = figure(row, WL);
+    let half = figure(row, BL) / 2;
+    let rtrs = figure(row, TRTRS);
     let mut longest = turn(row);
     longest = most(longest, less(cl + half + 2, wl));
     longest = most(longest, less(wl + half + rtrs, cl));
@@ -136,9 +177,9 @@ pub fn readwrite(row: [u16; 15]) -> Cycles
 fn hit_cycles(row: [u16; 15]) -> u64
     ensures { λ r. ⌜ (r ≡ hit row .0) × (r ≤ 163837) ⌝ }
 {
-    let half = wide(row[5]) / 2;
-    let read = wide(row[3]) + half + 2;
-    let write = wide(row[4]) + half + most(wide(row[6]), wide(row[7]));
+    let half = figure(row, BL) / 2;
+    let read = figure(row, CL) + half + 2;
+    let write = figure(row, WL) + half + most(figure(row, TWTR), figure(row, TWR));
     most(read, write)
 }
 
@@ -152,14 +193,14 @@ pub fn hit(row: [u16; 15]) -> Cycles
 pub fn reopen(row: [u16; 15]) -> Cycles
     ensures { λ r. ⌜ r ≡ reopen row ⌝ }
 {
-    Cycles(wide(row[1]) + wide(row[2]))
+    Cycles(figure(row, TRP) + figure(row, TRCD))
 }
 
 // "conf = tRP + tRCD + hit."
 pub fn conf(row: [u16; 15]) -> Cycles
     ensures { λ r. ⌜ r ≡ conf row ⌝ }
 {
-    Cycles(wide(row[1]) + wide(row[2]) + hit_cycles(row))
+    Cycles(figure(row, TRP) + figure(row, TRCD) + hit_cycles(row))
 }
 
 // "run(m) = m/2 rounded up, times (WL + BL/2 + tWTR), plus m/2 rounded down, times CL, plus (tWR − tWTR)."
@@ -167,17 +208,17 @@ pub fn run(row: [u16; 15], m: u64) -> Cycles
     requires { ⌜ m ≤ 65535 ⌝ }
     ensures { λ r. ⌜ r ≡ run row m ⌝ }
 {
-    let writes = (m + 1) / 2 * turn(row);
-    let reads = m / 2 * wide(row[3]);
-    Cycles(writes + reads + less(wide(row[7]), wide(row[6])))
+    let writes = times((m + 1) / 2, turn(row));
+    let reads = times(m / 2, figure(row, CL));
+    Cycles(writes + reads + less(figure(row, TWR), figure(row, TWTR)))
 }
 
 // "window = min(Ncols/BL, Ncap); Ncols/BL where Ncap is unknown."
 pub fn window(row: [u16; 15]) -> u64
     ensures { λ r. ⌜ r ≡ window row ⌝ }
 {
-    let bursts = quotient(wide(row[13]), wide(row[5]));
-    let cap = wide(row[14]);
+    let bursts = quotient(figure(row, NCOLS), figure(row, BL));
+    let cap = figure(row, NCAP);
     if cap == 65535 {
         bursts
     } else {
@@ -190,7 +231,7 @@ pub fn in_time(row: [u16; 15], c: Cycles) -> Picos
     requires { ⌜ c .0 * tCK row < 2 ^ 64 ⌝ }
     ensures { λ r. ⌜ r ≡ inTime row c ⌝ }
 {
-    Picos(c.0 * wide(row[0]))
+    Picos(c.0 * figure(row, TCK))
 }
 
 // pre + act + rw: what one request of a far core costs, in cycles
@@ -279,19 +320,19 @@ fn broken(place: u8) -> Refusal
 pub fn check_relations(row: [u16; 15]) -> Refusal
     ensures { λ r. ⌜ r ≡ first 7 (relationFault row) 5 ⌝ }
 {
-    if row[7] < row[6] {
+    if figure(row, TWR) < figure(row, TWTR) {
         return broken(1);
     }
-    if turn(row) < wide(row[3]) {
+    if turn(row) < figure(row, CL) {
         return broken(2);
     }
-    if wide(row[3]) + wide(row[5]) / 2 + 2 <= wide(row[11]) {
+    if figure(row, CL) + figure(row, BL) / 2 + 2 <= figure(row, TRTP) {
         return broken(3);
     }
-    if wide(row[2]) + hit_cycles(row) <= wide(row[10]) {
+    if figure(row, TRCD) + hit_cycles(row) <= figure(row, TRAS) {
         return broken(4);
     }
-    if remainder(wide(row[13]), wide(row[5])) != 0 {
+    if remainder(figure(row, NCOLS), figure(row, BL)) != 0 {
         return broken(5);
     }
     Refusal {

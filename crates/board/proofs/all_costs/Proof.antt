@@ -1,16 +1,15 @@
 -- `all_costs` fills a place a core with its costs. Assumes nothing.
 use mathlib.Core.Path.{_≡_, refl}
 use mathlib.Core.List.{map}
-use Prim.Native.Nat.{_+_, _-_, _≤_}
+use Prim.Native.Nat.{_-_, _≤_}
 use borrow.Author.Needs.{needs}
 use native.Mathlib.Omega.{arith}
 use Rattle.rules.specs.declared.Table.{Table}
 use Rattle.rules.specs.Idioms.{from, upTo, filled}
 use Rattle.timing.specs.Figures.{figuresOf}
-use Rattle.board.specs.Masks.{farMasks}
 use Rattle.board.specs.Costs.{costsOf, noCosts}
 use Rattle.board.proofs.Places.{place-next}
-use Rattle.board.proofs.Weighed.{shows, small}
+use Rattle.board.proofs.Weighed.{small}
 use Rattle.board.proofs.all_costs.Statement.{statement}
 use Rattle.board.proofs.all_costs.Tie as tie
 
@@ -41,7 +40,7 @@ loop-again c =
     let l = side .before .before .before in (
       search needs,
       λ t e s f.
-          rw (l .loop .inv .1 t e s f, c .costs .ensures t e (shows t (rw (e, s) (side .side .ensures)) (rw (e, s) (l .before .far-sides .ensures)) f))
+          rw (l .loop .inv .1 t e s f, c .costs .ensures t e (record { near-is = rw (e, s) (side .side .ensures); far-are = rw (e, s) (l .before .far-sides .ensures); figures-are = f }))
           (place-next noCosts (costsOf t) 8 (l .loop .p) (omega (arith, start (l .before) .pre .cores-in .high))),
     )
 

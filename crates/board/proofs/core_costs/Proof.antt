@@ -1,7 +1,7 @@
 -- `core_costs` gives both costs of one core. Assumes nothing.
 use mathlib.Core.Path.{refl}
 use borrow.Author.Needs.{needs}
-use Rattle.board.proofs.Weighed.{shows, small}
+use Rattle.board.proofs.Weighed.{small}
 use Rattle.board.proofs.core_costs.Statement.{statement}
 use Rattle.board.proofs.core_costs.Tie as tie
 
@@ -16,7 +16,7 @@ returns : tie.Need-returns
 returns c =
     let b = c .before .before in
     let f = b .before .before .before .before in
-    c .costs .ensures (start f .args .t) refl (shows (start f .args .t) (b .side .ensures) (b .before .before .far-sides .ensures) (f .figures-of .ensures))
+    c .costs .ensures (start f .args .t) refl (record { near-is = b .side .ensures; far-are = b .before .before .far-sides .ensures; figures-are = f .figures-of .ensures })
 
 pub core-costs-spec : {M : Type 1} → statement M
 core-costs-spec =

@@ -2,17 +2,17 @@
 use mathlib.Core.Path.{_≡_, refl}
 use mathlib.Core.Bool.{false}
 use mathlib.Core.List.{map}
-use Prim.Native.Nat.{_+_, _-_, _≤_}
+use Prim.Native.Nat.{_-_, _≤_}
 use borrow.Author.Needs.{needs}
 use native.Mathlib.Omega.{arith}
 use Rattle.rules.specs.Idioms.{from, upTo, filled}
-use Rattle.board.specs.Masks.{mask, besides, farMasks}
+use Rattle.board.specs.Masks.{mask, onSide, farMasks}
 use Rattle.board.proofs.Places.{place-next}
 use Rattle.board.proofs.far_sides.Statement.{statement}
 use Rattle.board.proofs.far_sides.Tie as tie
 
 abbrev Inv-loop : tie.InvT-loop
-Inv-loop cores sets far₀ p₀ far p = (p ≤ cores) × (far ≡ filled 8 0 (map (λ q. mask (besides false sets q) cores) (upTo p)))
+Inv-loop cores sets far₀ p₀ far p = (p ≤ cores) × (far ≡ filled 8 0 (map (λ q. mask (onSide false sets q) cores) (upTo p)))
 
 abbrev μ-loop : tie.MeasureT-loop
 μ-loop cores sets far₀ p₀ far p = cores - p

@@ -4,13 +4,13 @@ use Prim.Native.Nat.{_+_, _-_, _*_, _≤_, _<_}
 use borrow.Author.Needs.{needs}
 use native.Mathlib.Nat.{sub-zero}
 use native.Mathlib.Omega.{arith}
-use Rattle.board.specs.Masks.{maskFrom, besides}
+use Rattle.board.specs.Masks.{maskFrom, onSide}
 use Rattle.board.proofs.Masks.{mask-step, mask-room}
 use Rattle.board.proofs.side.Statement.{statement}
 use Rattle.board.proofs.side.Tie as tie
 
 abbrev Inv-loop : tie.InvT-loop
-Inv-loop cores sets p near bits₀ q₀ bits q = (q ≤ cores) × (bits ≡ maskFrom (besides near sets p) (q + 1) (cores - q))
+Inv-loop cores sets p near bits₀ q₀ bits q = (q ≤ cores) × (bits ≡ maskFrom (onSide near sets p) (q + 1) (cores - q))
 
 abbrev μ-loop : tie.MeasureT-loop
 μ-loop cores sets p near bits₀ q₀ bits q = q
@@ -30,7 +30,7 @@ loop-again : tie.Need-loop-again Inv-loop μ-loop
 loop-again c =
     let l = c .before .before .loop in
     let a = c .before .before .before .args in
-    (search needs, rw (mask-step (besides (a .near) (a .sets .now) (a .p)) (l .q) (a .cores) (omega arith) (omega arith), l .inv .1, c .beside .ensures .0))
+    (search needs, rw (mask-step (onSide (a .near) (a .sets .now) (a .p)) (l .q) (a .cores) (omega arith) (omega arith), l .inv .1, c .on-side .ensures .0))
 
 returns : tie.Need-returns Inv-loop μ-loop
 returns c = let e : c .before .loop .q ≡ 0 = omega arith in rw (c .before .loop .inv .1, e, sub-zero)

@@ -1,4 +1,4 @@
--- `beside` says of one core whether it is near, or far. Assumes nothing.
+-- `on_side` says of one core whether it is near, or far. Assumes nothing.
 use mathlib.Core.Path.{_≡_, refl}
 use mathlib.Core.Bool.{Bool, Bool·beq, true, false, cond, not, _&&_}
 use Prim.Native.Nat.{ℕ}
@@ -6,8 +6,8 @@ use lib.Dec.{eqb}
 use borrow.Author.Needs.{needs}
 use borrow.Author.Tests.{eq-eqb, ne-eqb}
 use Rattle.board.specs.Masks.{asBit}
-use Rattle.board.proofs.beside.Statement.{statement}
-use Rattle.board.proofs.beside.Tie as tie
+use Rattle.board.proofs.on_side.Statement.{statement}
+use Rattle.board.proofs.on_side.Tie as tie
 
 -- of another core: whether sharing is what was asked for
 other : (p q : ℕ) (near r s b : Bool) → (q ≡ p → ⊥) → r ≡ s → Bool·beq r near ≡ b → asBit b ≡ asBit (not (eqb q p) && cond near s (not s))
@@ -19,8 +19,8 @@ other p q near r s b apart e asked = rw (ne-eqb q p apart, ← e, ← asked) (go
     go false true = refl
     go false false = refl
 
-pub beside-spec : {M : Type 1} → statement M
-beside-spec =
+pub on-side-spec : {M : Type 1} → statement M
+on-side-spec =
     tie.close
     (tie.spec
     (λ c. (rw (eq-eqb _ _ (c .if1 .taken)), search needs))
