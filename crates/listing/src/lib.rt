@@ -58,6 +58,7 @@ pub fn refused(number: u8, out: &mut [u8]) -> usize
 // The listing of a table file, whole, and its length; where it does not fit, nothing, and 0.
 pub fn list(file: &[u8], out: &mut [u8]) -> usize
     ensures { λ r. ⌜ Given (listing (now (file .entry))) (now (out .entry)) r (now (out .exit)) ⌝ }
+    ensures { λ _. ⌜ length (listing (now (file .entry))) ≤ 3266 ⌝ }
 {
     let read = file::read(file);
     let refusal = read.refusal;
