@@ -1,0 +1,4 @@
+pub mod Put
+pub mod Decimal
+pub mod Lines
+pub mod Missed
