@@ -1,0 +1,5 @@
+pub mod Parts
+pub mod Running
+pub mod Checks
+pub mod Runs
+pub mod Steps
