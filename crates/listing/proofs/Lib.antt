@@ -1,4 +1,4 @@
 pub mod Put
 pub mod Decimal
-pub mod Lines
+pub mod TaskLines
 pub mod Missed

@@ -5,8 +5,8 @@ use Prim.Native.Nat.{ℕ, suc, _+_, _<_, _≤_}
 use native.Mathlib.Omega.{arith}
 use native.Mathlib.Nat.{add-zero, zero-add}
 use native.Mathlib.Numerals.{add-one}
-use lib.ListN.{length, getD, drop, set, length-append, drop-of-length-le}
-use lib.Seq.{sets, sets-eq, drop-cons}
+use lib.ListN.{length, getD, take, drop, set, length-append, drop-of-length-le}
+use lib.Seq.{sets, sets-eq, drop-cons, take-append-seam}
 use borrow.Author.Tests.{le-leb, lt-leb}
 use Rattle.listing.specs.Put.{Put, Given}
 
@@ -34,6 +34,12 @@ module _ (l : List ℕ) (at : ℕ) (w : List ℕ) (i : ℕ) where
 
   pub store-done : length w ≤ i → sets l (at + i) (drop i w) ≡ l
   store-done h = rw (drop-of-length-le w h)
+
+-- what has been put at the start
+pub front : {l r text : List ℕ} {next : ℕ} → Put l 0 text next r → next ≤ length l → take next r ≡ text
+front {l} {r} {text} {next} p h =
+    let e : next ≡ length text = p .ends ∙ zero-add (length text) in
+    rw (p .bytes, e, sets-eq text l 0 (omega arith), take-append-seam)
 
 -- a text that does not fit; and one that does, put at the start
 module _ (text out : List ℕ) where

@@ -10,7 +10,7 @@ use Rattle.listing.specs.declared.last.First.the-variants.{Nothing, At}
 use Rattle.rules.specs.Idioms.{text, upTo, entry, joined, those}
 use Rattle.rules.specs.Judgement.{misses}
 use Rattle.rules.specs.Tasks.{coreOf}
-use Rattle.rules.specs.Listing.{taskLine, isMiss}
+use Rattle.rules.specs.Listing.{decimal, line, taskLine, isMiss, tableLines}
 
 -- words with a space before each and after the last
 abbrev pub spaced : List (List ℕ) → List ℕ
@@ -31,3 +31,11 @@ missed answers n = those (λ k. isMiss (entry (misses 0) answers k .verdict)) (u
 abbrev pub firstOf : List ℕ → First
 firstOf [] = Nothing
 firstOf (k ∷ ks) = At k
+
+-- what is listed for a table passed directly. Tables have 1 to 32 tasks: for a higher count there is nothing to list
+unfoldable pub tableText : Table → List Answer → List ℕ
+tableText t answers = cond (leb (t .tasks) 32) (tableLines t answers) []
+
+-- "`refused` and its number"
+unfoldable pub refusedLine : ℕ → List ℕ
+refusedLine number = line (text "refused" ∷ decimal number ∷ [])

@@ -2,7 +2,7 @@
 use native.Mathlib.Omega.{arith}
 use borrow.Author.Needs.{needs}
 use Rattle.listing.proofs.Put.{_then_}
-use Rattle.listing.proofs.Lines.{task-line}
+use Rattle.listing.proofs.TaskLines.{task-line}
 use Rattle.listing.proofs.rows.put_row.Statement.{statement}
 use Rattle.listing.proofs.rows.put_row.Tie as tie
 
@@ -15,9 +15,9 @@ returns c =
     let space = core .before .before .before .before in
     let number = space .before .before .before .before .before in
     let put =
-        number .put-number .ensures .0 then space .put-word .ensures then core .put-number2 .ensures .0 then verdict .put-verdict .ensures .0
-        then rounds .put-number3 .ensures .0
-        then newline .put-word2 .ensures
+    number .put-number .ensures .0 then space .put-word .ensures then core .put-number2 .ensures .0 then verdict .put-verdict .ensures .0
+    then rounds .put-number3 .ensures .0
+    then newline .put-word2 .ensures
     in
     (rw task-line put, omega (arith, space .put-word .ensures .ends, newline .put-word2 .ensures .ends))
 

@@ -7,7 +7,7 @@ use lib.ListN.{length}
 use Rattle.listing.specs.Put.{Put}
 use Rattle.listing.specs.Lines.{rows}
 use Rattle.listing.proofs.Put.{nothing, _then_}
-use Rattle.listing.proofs.Lines.{rows-none, rows-next}
+use Rattle.listing.proofs.TaskLines.{rows-none, rows-next}
 use Rattle.listing.proofs.rows.put_rows.Statement.{statement}
 use Rattle.listing.proofs.rows.put_rows.Tie as tie
 
