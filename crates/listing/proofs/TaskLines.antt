@@ -20,7 +20,7 @@ line-spaced first [] last = simp append-assoc
 line-spaced first (w ∷ ws) last = rw (line-spaced w ws last) (simp append-assoc)
 
 pub task-line : (k core : ℕ) (a : Answer)
-    → taskLine k core a ≡ decimal k ++ text " " ++ decimal core ++ spaced (verdictWords (a .verdict)) ++ decimal (a .rounds) ++ text "\n"
+    → taskLine k core a ≡ decimal k ++ text " " ++ decimal core ++ (spaced (verdictWords (a .verdict)) ++ decimal (a .rounds)) ++ text "\n"
 unfolding taskLine
 task-line k core a = rw (line-spaced (decimal core) (verdictWords (a .verdict)) (decimal (a .rounds))) (simp append-assoc)
 

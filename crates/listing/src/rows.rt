@@ -5,10 +5,10 @@ use rules::Answer;
 use rules::Delay;
 use rules::Table;
 use rules::Verdict;
-ghost use mathlib.Core.List.{[], _∷_};
+ghost use mathlib.Core.List.{[], _∷_, _++_};
 ghost use Prim.Native.Nat.{_+_, _≤_};
 ghost use lib.ListN.{length};
-ghost use Rattle.rules.specs.Listing.{delayWord, verdictWords, taskLine};
+ghost use Rattle.rules.specs.Listing.{decimal, delayWord, verdictWords, taskLine};
 ghost use Rattle.listing.specs.Put.{Put};
 ghost use Rattle.listing.specs.Lines.{spaced, rows};
 
@@ -24,18 +24,22 @@ fn put_delay(buf: &mut [u8], at: usize, by: Delay) -> usize
     }
 }
 
-// Verdict, bound and deciding delay, with a space before each and after the last.
-fn put_verdict(buf: &mut [u8], at: usize, verdict: Verdict) -> usize
-    requires { ⌜ at + 36 ≤ length (now buf) ⌝ }
-    ensures { λ r. ⌜ Put (now (buf .entry)) at (spaced (verdictWords verdict)) r (now (buf .exit)) ⌝ }
-    ensures { λ r. ⌜ r ≤ at + 36 ⌝ }
+// Verdict, bound, deciding delay and rounds, with a space before each.
+fn put_answer(buf: &mut [u8], at: usize, verdict: Verdict, rounds: u64) -> usize
+    requires { ⌜ at + 56 ≤ length (now buf) ⌝ }
+    ensures { λ r. ⌜ Put (now (buf .entry)) at (spaced (verdictWords verdict) ++ decimal rounds) r (now (buf .exit)) ⌝ }
+    ensures { λ r. ⌜ r ≤ at + 56 ⌝ }
 {
     match verdict {
-        Verdict::Misses => put_word(buf, at, b" misses - - "),
+        Verdict::Misses => {
+            let words = put_word(buf, at, b" misses - - ");
+            put_number(buf, words, rounds)
+        }
         Verdict::Holds(bound, by) => {
             let word = put_word(buf, at, b" holds ");
             let number = put_number(buf, word, bound.0);
-            put_delay(buf, number, by)
+            let delay = put_delay(buf, number, by);
+            put_number(buf, delay, rounds)
         }
     }
 }
@@ -50,9 +54,8 @@ fn put_row(buf: &mut [u8], at: usize, k: u64, core: u8, answer: Answer) -> usize
     let number = put_number(buf, at, k);
     let space = put_word(buf, number, b" ");
     let place = put_number(buf, space, core as u64);
-    let words = put_verdict(buf, place, verdict);
-    let rounds = put_number(buf, words, answer.rounds);
-    put_word(buf, rounds, b"\n")
+    let words = put_answer(buf, place, verdict, answer.rounds);
+    put_word(buf, words, b"\n")
 }
 
 // The lines of all tasks.

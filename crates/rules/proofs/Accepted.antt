@@ -1,36 +1,21 @@
 -- An accepted table is sound: one law, so that nobody opens the checks again. Assumes nothing.
-use mathlib.Core.Path.{_≡_, refl}
-use mathlib.Core.Bool.{Bool, true, false, not, _&&_, _||_}
-use mathlib.Core.List.{List, [], _∷_}
-use Prim.Native.Nat.{ℕ, suc, _+_, _≤_, _<_, _^_, _/_, _%_}
+use mathlib.Core.Path.{_≡_}
+use mathlib.Core.Bool.{true, false, not, _&&_}
+use Prim.Native.Nat.{ℕ, _≤_, _<_, _^_}
 use native.Mathlib.Omega.{arith}
 use lib.Dec.{leb, ltb, eqb}
-use lib.ListN.{getD}
 use borrow.Author.Tests.{leb-true, ltb-true, ltb-false, eqb-true, eqb-false, not-false}
-use Rattle.rules.specs.declared.Task.{Task}
 use Rattle.rules.specs.declared.Table.{Table}
 use Rattle.rules.specs.declared.Refusal.{Refusal}
 use Rattle.rules.specs.Idioms.{entry, within}
-use Rattle.rules.specs.Timing.{Row, BL, tWR, tWTR, ranges}
+use Rattle.rules.specs.Timing.{Row, tWR, tWTR, ranges}
 use Rattle.rules.specs.Tasks.{C, T, D, H, taskOf}
 use Rattle.rules.specs.Cores.{setOf}
 use Rattle.rules.specs.Refusals.{isAccepted, _orElse_, given, first, fourthAllowed, countsFault, figureFault, relationsHold, relationFault, checkTiming, setFault, coreFault, timeFault, requestFault, checkBoard, checkTasks, checkTable}
 use Rattle.rules.specs.Sound.{Within, SoundRow, SoundTask, Sound}
 use Rattle.rules.proofs.First.{none-first}
 use Rattle.rules.proofs.Chain.{both-accepted, no-fault}
-
-and-both : (a b : Bool) → a && b ≡ true → (a ≡ true) × (b ≡ true)
-and-both true b e = (refl, e)
-and-both false b e = let z : _≡_ {A = ℕ} 0 1 = cc in (absurd (omega arith), absurd (omega arith))
-
-or-neither : (a b : Bool) → a || b ≡ false → (a ≡ false) × (b ≡ false)
-or-neither false b e = (refl, e)
-or-neither true b e = let z : _≡_ {A = ℕ} 0 1 = cc in (absurd (omega arith), absurd (omega arith))
-
-inside : (lowest highest x : ℕ) → within lowest highest x ≡ true → Within lowest highest x
-inside lowest highest x e =
-    let h = and-both (leb lowest x) (leb x highest) e in
-    record { low = leb-true lowest x (h .0); high = leb-true x highest (h .1) }
+use Rattle.rules.proofs.Tests.{and-both, or-neither, inside}
 
 -- ---- the row
 

@@ -38,3 +38,13 @@ module _ (n : ℕ) (fault : ℕ → Bool) where
 
   pub none-first : (m : ℕ) → isAccepted (first (suc n) fault m) ≡ true → (i : ℕ) → 1 ≤ i → i ≤ m → fault i ≡ false
   none-first m e i low high = none-from 1 m e i low (omega arith)
+
+  -- and back
+  none-given : (k m : ℕ) → ((i : ℕ) → k ≤ i → i < k + m → fault i ≡ false) → firstFrom n fault k m ≡ accepted
+  unfolding firstFrom
+  none-given k zero clear = refl
+  none-given k (suc m) clear =
+      rw (clear k (omega arith) (omega arith)) (none-given (k + 1) m (λ i low high. clear i (omega arith) (omega arith)))
+
+  pub first-none : (m : ℕ) → ((i : ℕ) → 1 ≤ i → i ≤ m → fault i ≡ false) → first n fault m ≡ accepted
+  first-none m clear = none-given 1 m (λ i low high. clear i low (omega arith))

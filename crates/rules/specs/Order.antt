@@ -1,6 +1,5 @@
 -- "Two accepted tables alike but that the newer may raise execution times and request counts and shorten periods." Alike are
 -- their used places: "Places of a table beyond its counts are ignored". Assumes nothing.
-use Prim.Native.Nat.{ℕ}
 use mathlib.Core.Bool.{Bool, _&&_}
 use lib.Dec.{leb, eqb}
 use Rattle.rules.specs.declared.Task.{Task}

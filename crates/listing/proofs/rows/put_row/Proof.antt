@@ -1,4 +1,4 @@
--- `put_row` meets its contract: six texts one after the other. Assumes nothing.
+-- `put_row` meets its contract: five texts one after the other. Assumes nothing.
 use native.Mathlib.Omega.{arith}
 use borrow.Author.Needs.{needs}
 use Rattle.listing.proofs.Put.{_then_}
@@ -9,14 +9,12 @@ use Rattle.listing.proofs.rows.put_row.Tie as tie
 returns : tie.Need-returns
 returns c =
     let newline = c .before .before in
-    let rounds = newline .before .before .before .before .before in
-    let verdict = rounds .before .before .before .before in
-    let core = verdict .before .before .before .before in
+    let answer = newline .before .before .before .before .before in
+    let core = answer .before .before .before .before in
     let space = core .before .before .before .before in
     let number = space .before .before .before .before .before in
     let put =
-    number .put-number .ensures .0 then space .put-word .ensures then core .put-number2 .ensures .0 then verdict .put-verdict .ensures .0
-    then rounds .put-number3 .ensures .0
+    number .put-number .ensures .0 then space .put-word .ensures then core .put-number2 .ensures .0 then answer .put-answer .ensures .0
     then newline .put-word2 .ensures
     in
     (rw task-line put, omega (arith, space .put-word .ensures .ends, newline .put-word2 .ensures .ends))
@@ -27,7 +25,6 @@ put-row-spec =
     (tie.spec
     (λ c κs. search needs)
     (λ c. search needs)
-    (λ c κs. search needs)
     (λ c κs. search needs)
     (λ c κs. search needs)
     (λ c κs. search needs)

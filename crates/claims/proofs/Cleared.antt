@@ -1,0 +1,67 @@
+-- A table and the same table cleared meet the same refusals. Assumes nothing.
+use mathlib.Core.Path.{_≡_, refl, ap, _∙_}
+use mathlib.Core.Bool.{Bool, not, _||_}
+use mathlib.Core.List.{List}
+use Prim.Native.Nat.{ℕ, zero, suc, _+_, _-_, _^_, _≤_, _<_}
+use native.Mathlib.Omega.{arith}
+use lib.Dec.{ltb, eqb}
+use lib.ListN.{length, take, replicate, List·getD-append}
+use lib.Seq.{length-take-le, getD-take}
+use Rattle.rules.specs.declared.Refusal.{Refusal}
+use Rattle.rules.specs.declared.Task.{Task}
+use Rattle.rules.specs.declared.Table.{Table}
+use Rattle.rules.specs.Idioms.{entry, filled, within}
+use Rattle.rules.specs.Tasks.{noTask, taskOf}
+use Rattle.rules.specs.Cores.{setOf}
+use Rattle.rules.specs.Refusals.{_orElse_, given, firstFrom, first, countsFault, checkTiming, setFault, coreFault, timeFault, requestFault, checkBoard, checkTasks, checkTable}
+use Rattle.rules.proofs.Accepted.{sound}
+use Rattle.claims.specs.Files.{AcceptedTable, Shape, cleared}
+
+-- two tests that agree on the places that are looked at have the same first fault
+module _ (n : ℕ) {f g : ℕ → Bool} where
+  from-same : (k m : ℕ) → ((i : ℕ) → k ≤ i → i < k + m → f i ≡ g i) → firstFrom n f k m ≡ firstFrom n g k m
+  unfolding firstFrom
+  from-same k zero h = refl
+  from-same k (suc m) h = rw (h k (omega arith) (omega arith), from-same (k + 1) m (λ i low high. h i (omega arith) (omega arith)))
+
+  pub first-same : (m : ℕ) → ((i : ℕ) → 1 ≤ i → i ≤ m → f i ≡ g i) → first n f m ≡ first n g m
+  first-same m h = from-same 1 m (λ i low high. h i low (omega arith))
+
+-- a used place is kept, whatever the others are filled with
+kept : {A : Type 0} (m n : ℕ) (d fill : A) (l : List A) (p : ℕ) → n ≤ length l → 1 ≤ p → p ≤ n → entry d (filled m fill (take n l)) p ≡ entry d l p
+kept m n d fill l p fits low high =
+    let less : p - 1 < n = omega arith in
+    let used : p - 1 < length (take n l) = rw (length-take-le n l fits) less in
+    List·getD-append (take n l) (replicate (m - length (take n l)) fill) d (p - 1) used ∙ getD-take n l (p - 1) d less
+
+module _ (t : Table) (shape : Shape t) (passed : AcceptedTable t) where
+  set-kept : (p : ℕ) → 1 ≤ p → p ≤ t .cores → setOf (cleared t) p ≡ setOf t p
+  unfolding cleared
+  set-kept p = kept 8 (t .cores) 0 _ (t .sets) p (omega (arith, sound t passed .cores-in, shape .sets))
+
+  task-kept : (k : ℕ) → 1 ≤ k → k ≤ t .tasks → taskOf (cleared t) k ≡ taskOf t k
+  unfolding cleared
+  task-kept k = kept 32 (t .tasks) noTask _ (t .task) k (omega (arith, sound t passed .tasks-in, shape .tasks))
+
+  set-fault-kept : (p : ℕ) → 1 ≤ p → p ≤ t .cores → setFault (cleared t) p ≡ setFault t p
+  unfolding setFault cleared
+  set-fault-kept p low high = ap (λ (x : ℕ). eqb x 0 || not (ltb x (2 ^ t .partitions))) (set-kept p low high)
+
+  core-fault-kept : (k : ℕ) → 1 ≤ k → k ≤ t .tasks → coreFault (cleared t) (taskOf (cleared t) k) ≡ coreFault t (taskOf t k)
+  unfolding coreFault cleared
+  core-fault-kept k low high = ap (λ (i : Task). not (within 1 (t .cores) (i .core))) (task-kept k low high)
+
+  board-same : checkBoard (cleared t) ≡ checkBoard t
+  unfolding checkBoard countsFault cleared
+  board-same = ap (λ (r : Refusal). given 5 0 (countsFault t) orElse checkTiming (t .timing) orElse r) (first-same 8 (t .cores) set-fault-kept)
+
+  tasks-same : checkTasks (cleared t) ≡ checkTasks t
+  unfolding checkTasks cleared
+  tasks-same = λ j.
+      first-same 9 (t .tasks) core-fault-kept j
+      orElse first-same 10 (t .tasks) (λ k low high. ap timeFault (task-kept k low high)) j
+      orElse first-same 11 (t .tasks) (λ k low high. ap requestFault (task-kept k low high)) j
+
+  pub cleared-same : checkTable (cleared t) ≡ checkTable t
+  unfolding checkTable
+  cleared-same = rw (board-same, tasks-same)

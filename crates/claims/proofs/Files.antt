@@ -1,0 +1,136 @@
+-- The demands on table files of specs/Files.antt hold. Assumes nothing.
+use mathlib.Core.Path.{_≡_, refl, sym, ap, _∙_}
+use mathlib.Core.Bool.{Bool, true, false, cond}
+use mathlib.Core.List.{List, _++_}
+use Prim.Native.Nat.{ℕ, _≤_}
+use lib.ListN.{length, take, drop, set}
+use lib.Seq.{take-append-seam, drop-append-seam}
+use borrow.Author.Tests.{le-ltb}
+use Rattle.rules.specs.declared.Table.{Table}
+use Rattle.rules.specs.Refusals.{accepted, isAccepted, checkTable}
+use Rattle.rules.specs.File.{encode, decode, checkWhole}
+use Rattle.rules.specs.Operations.{emptyTable, checkFile, reading, checkWrite, writing, outAfter}
+use Rattle.rules.proofs.Bytes.{Bytes}
+use Rattle.rules.proofs.EveryRule.{every-rule}
+use Rattle.rules.proofs.Chain.{both-accepted}
+use Rattle.claims.specs.Files.{AcceptedFile, AcceptedTable, Damage, Shape, cleared, Return, ReturnInPlace, OneToOne, NotEmpty}
+use Rattle.claims.proofs.Whole.{Whole, whole, came-whole}
+use Rattle.claims.proofs.Damage.{not-cut, not-altered}
+use Rattle.claims.proofs.FromFile.{already-cleared, shape-of-read, written-again}
+use Rattle.claims.proofs.FromTable.{file-small, encode-whole, read-again}
+use Rattle.claims.proofs.NoRefusal.{table-plain}
+use Rattle.claims.proofs.Cleared.{cleared-same}
+
+-- a test that cannot pass fails
+fails : (b : Bool) → (b ≡ true → ⊥) → b ≡ false
+fails true h = absurd (h refl)
+fails false h = refl
+
+-- ---- an accepted file
+
+module _ (s : List ℕ) (ok : AcceptedFile s) where
+  links : (isAccepted (checkWhole s) ≡ true) × AcceptedTable (decode s)
+  unfolding reading checkFile
+  links = both-accepted (checkWhole s) (checkTable (decode s)) ok
+
+  came : Whole s
+  came = whole s (links .0)
+
+  table-read : reading s .table ≡ decode s
+  unfolding reading
+  table-read = rw ok
+
+  pub read-accepted : AcceptedTable (reading s .table)
+  read-accepted = rw table-read (links .1)
+
+  pub read-written-back : Bytes s → encode (reading s .table) ≡ s
+  read-written-back b = rw table-read (written-again b came)
+
+pub damage : Damage
+damage = record {
+  cut-short = λ s ok n less. fails _ (λ e. not-cut n less (came s ok) (came (take n s) e));
+  one-byte = λ s b ok i v less byte other. fails _ (λ e. not-altered i v less other (came s ok) (came (set s i v) e) b byte);
+}
+
+-- ---- an accepted table
+
+module _ (t : Table) (shape : Shape t) (passed : AcceptedTable t) where
+  check-written : checkFile (encode t) ≡ accepted
+  unfolding checkFile
+  check-written = rw (came-whole (encode t) (encode-whole shape passed), read-again shape passed) (cleared-same t shape passed ∙ table-plain t passed)
+
+  pub written-read-back : reading (encode t) ≡ record { refusal = accepted; table = cleared t }
+  unfolding reading
+  written-read-back = rw (check-written, read-again shape passed)
+
+-- ---- what reading gives, accepted or not
+
+read-either : (P : Table → Type 0) (s : List ℕ) → (AcceptedFile s → P (decode s)) → P emptyTable → P (reading s .table)
+unfolding reading
+read-either P s yea nay = go (isAccepted (checkFile s)) refl
+  where
+    go : (b : Bool) → isAccepted (checkFile s) ≡ b → P (cond b (decode s) emptyTable)
+    go true e = yea e
+    go false e = nay
+
+empty-cleared : cleared emptyTable ≡ emptyTable
+unfolding cleared
+empty-cleared = refl
+
+empty-shape : Shape emptyTable
+empty-shape = record { figures = refl; sets = refl; tasks = refl }
+
+pub return : Return
+return = record {
+  read-written = written-read-back;
+  written-read = λ s b ok. read-written-back s ok b;
+  unused-zero = λ s. read-either (λ t. cleared t ≡ t) s (λ ok. already-cleared s) empty-cleared;
+  shape-read = λ s. read-either Shape s (λ ok. shape-of-read s (links s ok .1)) empty-shape;
+}
+
+-- ---- writing into a lent buffer
+
+module _ (t : Table) (out : List ℕ) (passed : AcceptedTable t) (room : length (encode t) ≤ length out) where
+  write-accepted : isAccepted (checkWrite t out) ≡ true
+  unfolding checkWrite
+  write-accepted = rw (passed, le-ltb (length out) (length (encode t)) room)
+
+  written-length : writing t out .length ≡ length (encode t)
+  unfolding writing
+  written-length = rw write-accepted
+
+  out-written : outAfter t out ≡ encode t ++ drop (length (encode t)) out
+  unfolding outAfter
+  out-written = rw write-accepted
+
+  written-part : take (writing t out .length) (outAfter t out) ≡ encode t
+  written-part = rw (written-length, out-written) (take-append-seam (encode t) _)
+
+rest-kept : (t : Table) (out : List ℕ) → drop (writing t out .length) (outAfter t out) ≡ drop (writing t out .length) out
+unfolding writing outAfter
+rest-kept t out = go (isAccepted (checkWrite t out))
+  where
+    go : (b : Bool) → drop (cond b (length (encode t)) 0) (cond b (encode t ++ drop (length (encode t)) out) out) ≡ drop (cond b (length (encode t)) 0) out
+    go true = drop-append-seam (encode t) (drop (length (encode t)) out)
+    go false = refl
+
+pub return-in-place : ReturnInPlace
+return-in-place = record {
+  read-written = λ t out shape passed room. rw (written-part t out passed room) (written-read-back t shape passed);
+  written-read = λ s out b ok room.
+      let back = read-written-back s ok b in
+      out-written (reading s .table) out (read-accepted s ok) (rw back room) ∙ ap (λ (l : List ℕ). l ++ drop (length l) out) back;
+  room = λ t shape passed. file-small shape passed;
+  rest-stays = rest-kept;
+}
+
+pub one-to-one : OneToOne
+one-to-one = record {
+  one-table = λ t u shape shape′ passed passed′ e.
+      sym (read-again shape passed) ∙ ap decode e ∙ read-again shape′ passed′;
+  one-file = λ s r b b′ ok ok′ e. sym (read-written-back s ok b) ∙ ap encode e ∙ read-written-back r ok′ b′;
+}
+
+pub not-empty : NotEmpty
+unfolding every-rule
+not-empty = record { shape = record { figures = refl; sets = refl; tasks = refl }; passed = refl }

@@ -1,0 +1,34 @@
+-- The demands of specs/ hold. What the proofs on files stand on, in the order of its parts:
+--     ByteLists  lists of bytes, and parts that are known by their number
+--     ByteSums   the two sums of a trailer
+--     Rows       values that are written in rows of one size, and read back
+--     Codes      a number in k bytes, and a task in a record
+--     Places     the parts of a file and where each row of them stands
+--     Whole      what refusals 1 to 4 leave of a file
+--     Damage     a file that was cut or altered did not come whole
+--     FromFile   the table that is read from a whole file is written as that file
+--     Widths     every figure of an accepted table fits its field
+--     FromTable  the file of an accepted table is whole and gives that table
+--     Cleared    a table and the same table cleared meet the same refusals
+--     NoRefusal  where nothing is refused, number and place are 0
+--     Files      the demands on table files
+-- and beside them
+--     Refused    what a refused operation gives
+--     Point2     what a verdict says
+--     Point3     a newer table judged from the older one's bounds
+pub mod ByteLists
+pub mod ByteSums
+pub mod Rows
+pub mod Codes
+pub mod Places
+pub mod Whole
+pub mod Damage
+pub mod FromFile
+pub mod Widths
+pub mod FromTable
+pub mod Cleared
+pub mod NoRefusal
+pub mod Files
+pub mod Refused
+pub mod Point2
+pub mod Point3

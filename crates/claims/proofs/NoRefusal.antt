@@ -1,0 +1,43 @@
+-- Where nothing is refused of a table, the refusal has number 0 and place 0. Assumes nothing.
+use mathlib.Core.Path.{_≡_, _∙_}
+use mathlib.Core.Bool.{Bool, true}
+use Prim.Native.Nat.{ℕ, suc}
+use Rattle.rules.specs.declared.Refusal.{Refusal}
+use Rattle.rules.specs.declared.Table.{Table}
+use Rattle.rules.specs.Tasks.{taskOf}
+use Rattle.rules.specs.Refusals.{accepted, isAccepted, _orElse_, given, first, countsFault, figureFault, relationFault, checkTiming, setFault, coreFault, timeFault, requestFault, checkBoard, checkTasks, checkTable}
+use Rattle.rules.proofs.Chain.{both-accepted, second-decides, no-fault}
+use Rattle.rules.proofs.First.{none-first, first-none}
+
+-- accepted by its number is accepted as a whole
+abbrev pub Plain : Refusal → Type 0
+Plain r = isAccepted r ≡ true → r ≡ accepted
+
+both-plain : (a b : Refusal) → Plain a → Plain b → Plain (a orElse b)
+both-plain a b p q e = let both = both-accepted a b e in second-decides a b (both .0) ∙ q (both .1)
+
+given-plain : (n place : ℕ) (fault : Bool) → Plain (given (suc n) place fault)
+given-plain n place fault e = rw (no-fault n place fault e)
+
+first-plain : (n : ℕ) (fault : ℕ → Bool) (m : ℕ) → Plain (first (suc n) fault m)
+first-plain n fault m e = first-none (suc n) fault m (none-first n fault m e)
+
+module _ (t : Table) where
+  timing-plain : Plain (checkTiming (t .timing))
+  unfolding checkTiming
+  timing-plain = both-plain _ _ (first-plain 5 (figureFault (t .timing)) 15) (first-plain 6 (relationFault (t .timing)) 5)
+
+  board-plain : Plain (checkBoard t)
+  unfolding checkBoard
+  board-plain = both-plain _ _ (both-plain _ _ (given-plain 4 0 (countsFault t)) timing-plain) (first-plain 7 (setFault t) (t .cores))
+
+  tasks-plain : Plain (checkTasks t)
+  unfolding checkTasks
+  tasks-plain =
+      both-plain _ _
+      (both-plain _ _ (first-plain 8 (λ k. coreFault t (taskOf t k)) (t .tasks)) (first-plain 9 (λ k. timeFault (taskOf t k)) (t .tasks)))
+      (first-plain 10 (λ k. requestFault (taskOf t k)) (t .tasks))
+
+  pub table-plain : Plain (checkTable t)
+  unfolding checkTable
+  table-plain = both-plain (checkBoard t) (checkTasks t) board-plain tasks-plain

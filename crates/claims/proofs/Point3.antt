@@ -1,0 +1,86 @@
+-- Point 3 holds, and its premise on starts is needed. Assumes nothing.
+use mathlib.Core.Path.{_≡_, refl}
+use mathlib.Core.Bool.{true}
+use Prim.Native.Nat.{ℕ, _≤_}
+use native.Mathlib.Omega.{arith}
+use Rattle.equation.specs.Carry.{Carries}
+use Rattle.rules.specs.declared.Table.{Table}
+use Rattle.rules.specs.Tasks.{releases, latest, taskOf}
+use Rattle.rules.specs.Others.{countsOf}
+use Rattle.rules.specs.Response.{F}
+use Rattle.rules.specs.Judgement.{lowest, roundsOf, judge}
+use Rattle.rules.specs.Refusals.{isAccepted, checkOne}
+use Rattle.rules.specs.Operations.{olderBound}
+use Rattle.rules.proofs.Starts.{Judgeable, one-judgeable, judgeable-one}
+use Rattle.rules.proofs.Points.{start-right, start-limit, carries, carried-judgeable}
+use Rattle.rules.proofs.Worsened.{worsened}
+use Rattle.rules.proofs.Again.{carried-verdict}
+use Rattle.rules.specs.declared.Delay.the-variants.{Request}
+use Rattle.rules.specs.declared.Verdict.the-variants.{Holds}
+use Rattle.rules.specs.Units.{ps}
+use Rattle.rules.specs.Figures.{two-solutions}
+use Rattle.rules.proofs.EveryRule.{every-rule}
+use Rattle.claims.specs.Point2.{Right}
+use Rattle.claims.specs.Point3.{Worsened, Rounds, Carried, PointThree, StartsMatter}
+use Rattle.claims.proofs.Point2.{right}
+
+rounds : (t : Table) (k start : ℕ) → Judgeable t k start → Rounds t k start
+unfolding judge roundsOf latest releases
+rounds t k start j = record { course = start-right t k start j .course; limit = start-limit t k start j }
+
+module _ (older newer : Table) (k : ℕ) (w : Worsened older newer k) where
+  last-older : k ≤ older .tasks
+  last-older = rw (worsened older newer (w .alike) .board .tasks) (w .last)
+
+  judgeable : Judgeable newer k (olderBound older k)
+  judgeable = carried-judgeable older newer (w .older-accepted) (w .newer-accepted) (w .alike) k (w .first) last-older
+
+  carry : Carries (F newer k) (lowest newer k) (latest (taskOf newer k)) (countsOf newer k) (olderBound older k)
+  carry = carries older newer (w .older-accepted) (w .newer-accepted) (w .alike) k (w .first) last-older
+
+  right-of-newer : Right newer k (olderBound older k) 1
+  unfolding roundsOf latest
+  right-of-newer = right newer k (olderBound older k) 1 (carry .right)
+
+  no-more : judge newer k (olderBound older k) .rounds ≤ judge newer k 0 .rounds
+  unfolding judge roundsOf
+  no-more = carry .no-more
+
+  carried : Carried older newer k
+  carried = record {
+    not-refused = judgeable-one newer k (olderBound older k) judgeable;
+    right = right-of-newer;
+    same = carried-verdict older newer (w .older-accepted) (w .newer-accepted) (w .alike) k (w .first) (w .last);
+    rounds = rounds newer k (olderBound older k) judgeable;
+    no-more = no-more;
+  }
+
+pub point-three : PointThree
+point-three = record { carried = carried; every-start = λ t k start passed. rounds t k start (one-judgeable t k start passed) }
+
+-- ---- the two solutions
+
+bounded-fresh : judge two-solutions 2 0 .verdict ≡ Holds (ps 9_000_000_000) Request
+unfolding every-rule
+bounded-fresh = refl
+
+bounded-later : judge two-solutions 2 12_000_000_000 .verdict ≡ Holds (ps 15_000_000_000) Request
+unfolding every-rule
+bounded-later = refl
+
+allowed-later : isAccepted (checkOne two-solutions 2 12_000_000_000) ≡ true
+unfolding every-rule
+allowed-later = refl
+
+pub starts-matter : StartsMatter
+starts-matter = record {
+  table = two-solutions;
+  task = 2;
+  start = 12_000_000_000;
+  not-refused = allowed-later;
+  bound = 9_000_000_000;
+  later-bound = 15_000_000_000;
+  fresh = (Request, bounded-fresh);
+  from-start = (Request, bounded-later);
+  differ = omega arith;
+}

@@ -1,0 +1,124 @@
+-- A file that came whole: what refusals 1 to 4 leave of a file, and that such a file is what stands before its trailer and the
+-- trailer of that. Assumes nothing.
+use mathlib.Core.Path.{_≡_, refl, sym}
+use mathlib.Core.Bool.{Bool, true, false, not}
+use mathlib.Core.List.{List, _++_}
+use Prim.Native.Nat.{ℕ, _+_, _-_, _^_, _≤_, _<_}
+use native.Mathlib.Omega.{arith}
+use lib.Dec.{eqb}
+use lib.ListN.{length, take, drop, take-append-drop, length-append, length-drop}
+use lib.Seq.{take-all, take-at, length-take-le, drop-append-add}
+use borrow.Author.Tests.{ltb-false, le-ltb, eqb-true, eq-eqb, not-false}
+use Rattle.rules.specs.Idioms.{number, bytes, part}
+use Rattle.rules.specs.File.{fileLength, coresIn, tasksIn, formIn, sumOf, runningSum, trailer, checkWhole}
+use Rattle.rules.specs.Refusals.{accepted, isAccepted, given, _orElse_}
+use Rattle.rules.proofs.Bytes.{Bytes, number-bytes}
+use Rattle.rules.proofs.Chain.{both-accepted, no-fault}
+use Rattle.rules.proofs.Tests.{or-neither}
+use Rattle.claims.proofs.ByteLists.{part-join, part-known}
+use Rattle.claims.proofs.ByteSums.{sum-fits, running-fits}
+
+pub record Whole (s : List ℕ) : Type 0 where
+  pub long : 46 ≤ length s
+  pub sized : length s ≡ fileLength (formIn s) (coresIn s) (tasksIn s)
+  pub counted : number (part s (length s - 12) 4) ≡ length s - 12
+  pub summed : number (part s (length s - 8) 4) ≡ sumOf (take (length s - 12) s)
+  pub resummed : number (part s (length s - 4) 4) ≡ runningSum (take (length s - 12) s)
+
+-- what stands before the trailer
+abbrev pub before : List ℕ → List ℕ
+before s = take (length s - 12) s
+
+-- a chain of four that gives none
+no-faults : (a b c d : Bool) → isAccepted (given 1 0 a orElse given 2 0 b orElse given 3 0 c orElse given 4 0 d) ≡ true
+    → ((a ≡ false) × (b ≡ false)) × ((c ≡ false) × (d ≡ false))
+no-faults a b c d e =
+    let four = both-accepted (given 1 0 a orElse given 2 0 b orElse given 3 0 c) (given 4 0 d) e in
+    let three = both-accepted (given 1 0 a orElse given 2 0 b) (given 3 0 c) (four .0) in
+    let two = both-accepted (given 1 0 a) (given 2 0 b) (three .0) in
+    ((no-fault 0 0 a (two .0), no-fault 1 0 b (two .1)), (no-fault 2 0 c (three .1), no-fault 3 0 d (four .1)))
+
+equal : (a b : ℕ) → not (eqb a b) ≡ false → a ≡ b
+equal a b e = eqb-true a b (not-false (eqb a b) e)
+
+module _ (s : List ℕ) where
+  pub whole : isAccepted (checkWhole s) ≡ true → Whole s
+  unfolding checkWhole
+  whole e =
+      let none = no-faults _ _ _ _ e in
+      let sums = or-neither _ _ (none .1 .1) in
+      record {
+        long = ltb-false _ _ (none .0 .0);
+        sized = equal _ _ (none .0 .1);
+        counted = equal _ _ (none .1 .0);
+        summed = equal _ _ (sums .0);
+        resummed = equal _ _ (sums .1);
+      }
+
+  pub came-whole : Whole s → checkWhole s ≡ accepted
+  unfolding checkWhole
+  came-whole w =
+      rw (le-ltb (length s) 46 (w .long), eq-eqb _ _ (w .sized), eq-eqb _ _ (w .counted), eq-eqb _ _ (w .summed), eq-eqb _ _ (w .resummed))
+
+module _ {s : List ℕ} (b : Bytes s) (w : Whole s) where
+  stored : (at v : ℕ) → at + 4 ≤ length s → number (part s at 4) ≡ v → bytes 4 v ≡ part s at 4
+  stored at v fits e = rw e at (part-known s at 4 b fits)
+
+  trailer-is : trailer (before s) ≡ drop (length s - 12) s
+  unfolding trailer
+  trailer-is =
+      let m = length s - 12 in
+      let long = w .long in
+      let size : length (before s) ≡ m = length-take-le m s (omega arith) in
+      let eight : length s - 8 ≡ m + 4 = omega arith in
+      let four : length s - 4 ≡ m + 8 = omega arith in
+      let count = stored m m (omega arith) (w .counted) in
+      let sum = stored (length s - 8) (sumOf (before s)) (omega arith) (w .summed) in
+      let resum = stored (length s - 4) (runningSum (before s)) (omega arith) (w .resummed) in
+      rw (size, count, sum, resum, eight, four, part-join s m 4 4, part-join s m 8 4)
+      (take-all 12 (drop m s) (rw (length-drop m s) (omega arith)))
+
+  pub before-and-trailer : s ≡ before s ++ trailer (before s)
+  before-and-trailer = rw trailer-is (sym (take-append-drop (length s - 12) s))
+
+pub trailer-length : (b : List ℕ) → length (trailer b) ≡ 12
+unfolding trailer bytes
+trailer-length b = refl
+
+-- bytes that are followed by their trailer
+abbrev pub trailed : List ℕ → List ℕ
+trailed b = b ++ trailer b
+
+-- they came whole, where the header tells their length and the sums fit
+module _ {b : List ℕ} (are : Bytes b) (long : 34 ≤ length b) (short : length b ≤ 4000) where
+  size : length (trailed b) ≡ length b + 12
+  size = rw (length-append b (trailer b), trailer-length b)
+
+  same-before : before (trailed b) ≡ b
+  same-before = take-at b (trailer b) (length (trailed b) - 12) (omega (arith, size))
+
+  trailer-number : (k v : ℕ) → k ≤ 12 → part (trailer b) k 4 ≡ bytes 4 v → v < 256 ^ 4 → number (part (trailed b) (length (trailed b) - (12 - k)) 4) ≡ v
+  trailer-number k v h e fits =
+      let at : length (trailed b) - (12 - k) ≡ length b + k = omega (arith, size) in
+      rw (at, drop-append-add b (trailer b) k, e) (number-bytes 4 v fits)
+
+  count-is : part (trailer b) 0 4 ≡ bytes 4 (length b)
+  unfolding trailer bytes
+  count-is = refl
+
+  sum-is : part (trailer b) 4 4 ≡ bytes 4 (sumOf b)
+  unfolding trailer bytes
+  sum-is = refl
+
+  resum-is : part (trailer b) 8 4 ≡ bytes 4 (runningSum b)
+  unfolding trailer bytes
+  resum-is = refl
+
+  pub trailed-whole : length (trailed b) ≡ fileLength (formIn (trailed b)) (coresIn (trailed b)) (tasksIn (trailed b)) → Whole (trailed b)
+  trailed-whole sized = record {
+    long = omega (arith, size);
+    sized = sized;
+    counted = omega (arith, size, trailer-number 0 (length b) (omega arith) count-is (omega arith));
+    summed = rw same-before (trailer-number 4 (sumOf b) (omega arith) sum-is (sum-fits are short));
+    resummed = rw same-before (trailer-number 8 (runningSum b) (omega arith) resum-is (running-fits are short));
+  }

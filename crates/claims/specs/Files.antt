@@ -1,0 +1,78 @@
+-- What the mission demands of table files, said of the rules' own definitions: a record is a demand and its fields are the clauses,
+-- with the document's words above them. Assumes nothing.
+use Prim.Native.Nat.{ℕ, _≤_, _<_}
+use mathlib.Core.Path.{_≡_}
+use mathlib.Core.Logic.{_≢_}
+use mathlib.Core.Bool.{true, false}
+use mathlib.Core.List.{List, _++_}
+use lib.ListN.{length, take, drop, getD, set}
+use Rattle.rules.specs.declared.Table.{Table}
+use Rattle.rules.specs.Idioms.{filled}
+use Rattle.rules.specs.Tasks.{noTask, tasksOf}
+use Rattle.rules.specs.Refusals.{accepted, isAccepted, checkTable}
+use Rattle.rules.specs.File.{encode}
+use Rattle.rules.specs.Operations.{reading, writing, outAfter}
+use Rattle.rules.specs.Figures.{listed}
+use Rattle.rules.proofs.Bytes.{Bytes}
+
+-- a file that reading accepts, and one that it refuses; a table that is accepted
+abbrev pub AcceptedFile : List ℕ → Type 0
+AcceptedFile s = isAccepted (reading s .refusal) ≡ true
+
+abbrev pub RefusedFile : List ℕ → Type 0
+RefusedFile s = isAccepted (reading s .refusal) ≡ false
+
+abbrev pub AcceptedTable : Table → Type 0
+AcceptedTable t = isAccepted (checkTable t) ≡ true
+
+-- "No accepted table file is accepted when cut short, nor with any one byte altered."
+pub record Damage : Type 0 where
+  pub cut-short : (s : List ℕ) → AcceptedFile s → (n : ℕ) → n < length s → RefusedFile (take n s)
+  pub one-byte : (s : List ℕ) → Bytes s → AcceptedFile s → (i b : ℕ) → i < length s → b < 256 → b ≢ getD s i 0 → RefusedFile (set s i b)
+
+-- the shape in which code holds every table
+pub record Shape (t : Table) : Type 0 where
+  pub figures : length (t .timing) ≡ 15
+  pub sets : length (t .sets) ≡ 8
+  pub tasks : length (t .task) ≡ 32
+
+-- a table with the places beyond its counts zero
+unfoldable pub cleared : Table → Table
+cleared t = record {
+  cores = t .cores;
+  partitions = t .partitions;
+  tasks = t .tasks;
+  fourth = t .fourth;
+  timing = t .timing;
+  sets = filled 8 0 (take (t .cores) (t .sets));
+  task = filled 32 noTask (tasksOf t);
+}
+
+-- "Reading a written table returns it, unused places zero; writing a read one returns the file."
+pub record Return : Type 0 where
+  pub read-written : (t : Table) → Shape t → AcceptedTable t → reading (encode t) ≡ record { refusal = accepted; table = cleared t }
+  pub written-read : (s : List ℕ) → Bytes s → AcceptedFile s → encode (reading s .table) ≡ s
+  -- "Places of a table beyond its counts are .. zero after reading"
+  pub unused-zero : (s : List ℕ) → cleared (reading s .table) ≡ reading s .table
+  -- so a read table can be written
+  pub shape-read : (s : List ℕ) → Shape (reading s .table)
+
+-- The same, by way of a lent buffer that is long enough. "Writing needs room for the whole file and answers its length; bytes after
+-- it stay."
+pub record ReturnInPlace : Type 0 where
+  pub read-written : (t : Table) (out : List ℕ) → Shape t → AcceptedTable t → length (encode t) ≤ length out
+      → reading (take (writing t out .length) (outAfter t out)) ≡ record { refusal = accepted; table = cleared t }
+  pub written-read : (s out : List ℕ) → Bytes s → AcceptedFile s → length s ≤ length out
+      → outAfter (reading s .table) out ≡ s ++ drop (length s) out
+  pub room : (t : Table) → Shape t → AcceptedTable t → length (encode t) ≤ 990
+  pub rest-stays : (t : Table) (out : List ℕ) → drop (writing t out .length) (outAfter t out) ≡ drop (writing t out .length) out
+
+-- A file is of one table, and a table of one file.
+pub record OneToOne : Type 0 where
+  pub one-table : (t u : Table) → Shape t → Shape u → AcceptedTable t → AcceptedTable u → encode t ≡ encode u → cleared t ≡ cleared u
+  pub one-file : (s r : List ℕ) → Bytes s → Bytes r → AcceptedFile s → AcceptedFile r → reading s .table ≡ reading r .table → s ≡ r
+
+-- The demands speak of something: the table of the listed figures has the shape, and it is accepted.
+pub record NotEmpty : Type 0 where
+  pub shape : Shape listed
+  pub passed : AcceptedTable listed

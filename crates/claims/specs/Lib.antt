@@ -1,0 +1,9 @@
+-- The mission's demands, said of the rules' own definitions: a record is a demand, and its fields are the clauses.
+--     Files    point 1 and the second half of point 2: damage is refused, reading and writing return what they are given
+--     Refused  point 1: what a refused operation gives
+--     Point2   what a verdict says
+--     Point3   a newer table judged from the older one's bounds
+pub mod Files
+pub mod Refused
+pub mod Point2
+pub mod Point3

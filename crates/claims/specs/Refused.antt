@@ -1,0 +1,23 @@
+-- What a refused operation gives, said of the rules' own definitions. Assumes nothing.
+use Prim.Native.Nat.{ℕ}
+use mathlib.Core.Path.{_≡_}
+use mathlib.Core.Bool.{false}
+use mathlib.Core.List.{List, []}
+use lib.ListN.{replicate}
+use Rattle.rules.specs.declared.Table.{Table}
+use Rattle.rules.specs.Judgement.{misses}
+use Rattle.rules.specs.Refusals.{isAccepted}
+use Rattle.rules.specs.Operations.{emptyTable, reading, checkView, viewing, writing, outAfter, judgeOne, judgeAll, rejudging}
+
+-- "A refused read gives an all-zero table, a refused view an empty part, a refused judgement answers that are all misses in
+-- 0 rounds, a refused writing the length 0. No lent byte changes."
+pub record Refused : Type 0 where
+  pub read : (s : List ℕ) → isAccepted (reading s .refusal) ≡ false → reading s .table ≡ emptyTable
+  pub view : (s : List ℕ) (k : ℕ) → isAccepted (checkView s k) ≡ false → viewing s k ≡ []
+  pub one : (t : Table) (k start : ℕ) → isAccepted (judgeOne t k start .refusal) ≡ false → judgeOne t k start .answer ≡ misses 0
+  pub all : (t : Table) (starts : List ℕ) → isAccepted (judgeAll t starts .refusal) ≡ false
+      → judgeAll t starts .answers ≡ replicate 32 (misses 0)
+  pub again : (older newer : Table) → isAccepted (rejudging older newer .refusal) ≡ false
+      → (rejudging older newer .carried ≡ false) × (rejudging older newer .answers ≡ replicate 32 (misses 0))
+  pub written-length : (t : Table) (out : List ℕ) → isAccepted (writing t out .refusal) ≡ false → writing t out .length ≡ 0
+  pub lent-bytes : (t : Table) (out : List ℕ) → isAccepted (writing t out .refusal) ≡ false → outAfter t out ≡ out

@@ -1,0 +1,94 @@
+-- The response equation of an accepted table is one that the theory asks for. Assumes nothing.
+use mathlib.Core.Path.{_≡_, refl}
+use mathlib.Core.Bool.{true}
+use mathlib.Core.Logic.{_⊎_, inl, inr}
+use mathlib.Core.List.{List, [], _∷_, map, List·Memᴰ, List·Memᴰ·append-cases}
+use Prim.Native.Nat.{ℕ, _-_, _≤_}
+use native.Mathlib.Omega.{arith}
+use Rattle.equation.specs.Equation.{Equation, Steps, renewals, most-rounds}
+use Rattle.rules.specs.declared.Task.{Task}
+use Rattle.rules.specs.declared.Table.{Table}
+use Rattle.rules.specs.Idioms.{sumOver}
+use Rattle.rules.specs.Tasks.{T, releases, latest, taskOf, coreOf, higher, elsewhere}
+use Rattle.rules.specs.Board.{memoryOf}
+use Rattle.rules.specs.Steady.{Slower}
+use Rattle.rules.specs.Response.{F}
+use Rattle.rules.specs.Judgement.{lowest}
+use Rattle.rules.specs.Others.{others, countsOf, roundLimit}
+use Rattle.rules.specs.Order.{worsens}
+use Rattle.rules.specs.Refusals.{isAccepted, checkTable}
+use Rattle.rules.specs.Sound.{SoundTask}
+use Rattle.rules.specs.Worsened.{Worsened}
+use Rattle.rules.proofs.Accepted.{sound}
+use Rattle.rules.proofs.SoundTasks.{sound-higher, sound-elsewhere}
+use Rattle.rules.proofs.Paired.{paired-map}
+use Rattle.rules.proofs.Kept.{Kept, kept-no-more, kept, kept-higher}
+use Rattle.rules.proofs.Memory.{response-equation, response-steps, response-worse}
+use Rattle.rules.proofs.Dram.{dram-steady, dram-slower}
+use Rattle.rules.proofs.Worsened.{worsened}
+
+module _ (t : Table) (accepted : isAccepted (checkTable t) ≡ true) (k : ℕ) (low : 1 ≤ k) (high : k ≤ t .tasks) where
+  own-sound : SoundTask (t .cores) (taskOf t k)
+  own-sound = sound t accepted .task-sound k low high
+
+  period-some : (j : Task) → List·Memᴰ j (others t k) → 1 ≤ T j
+  period-some j m = go (List·Memᴰ·append-cases (higher t k) m)
+    where
+      go : List·Memᴰ j (higher t k) ⊎ List·Memᴰ j (elsewhere t (coreOf t k)) → 1 ≤ T j
+      go (inl m) = omega (arith, sound-higher t (sound t accepted) k high m .T-in .low)
+      go (inr m) = omega (arith, sound-elsewhere t (sound t accepted) (coreOf t k) m .T-in .low)
+
+  pub equation-of : Equation (F t k) (lowest t k)
+  unfolding F lowest
+  equation-of =
+      response-equation (dram-steady t (sound t accepted) (coreOf t k)) (taskOf t k) (higher t k) (own-sound .C-in .low)
+
+  pub steps-of : Steps (F t k) (countsOf t k)
+  unfolding F
+  steps-of =
+      response-steps (dram-steady t (sound t accepted) (coreOf t k)) (taskOf t k) (higher t k) period-some
+
+  pub lowest-fits : lowest t k ≤ latest (taskOf t k)
+  unfolding lowest latest
+  lowest-fits = own-sound .C-in .high
+
+-- the limit on the rounds, in the document's words
+pub renewals-of : (d : ℕ) (js : List Task) → renewals d (map releases js) ≡ sumOver js (λ j. releases j d - 1)
+unfolding renewals
+renewals-of d [] = refl
+renewals-of d (j ∷ js) = omega (arith, renewals-of d js)
+
+pub limit-of : (t : Table) (k : ℕ) → most-rounds (latest (taskOf t k)) (countsOf t k) ≡ roundLimit t k
+limit-of t k = omega (arith, renewals-of (latest (taskOf t k)) (others t k))
+
+-- a newer table that is the older one worsened
+module _ (older newer : Table) (was : isAccepted (checkTable older) ≡ true) (is : isAccepted (checkTable newer) ≡ true)
+    (worse : worsens older newer ≡ true) (k : ℕ) (low : 1 ≤ k) (high : k ≤ older .tasks) where
+  facts : Worsened older newer
+  facts = worsened older newer worse
+
+  own-kept : Kept (older .cores) (taskOf older k) (taskOf newer k)
+  own-kept = kept older newer (sound older was) (sound newer is) facts k low high
+
+  memory-slower : Slower (memoryOf older (coreOf older k)) (memoryOf newer (coreOf newer k))
+  memory-slower =
+      let core = own-kept .was .core-in in
+      rw (← own-kept .raised .core)
+      (dram-slower older newer (sound older was) (sound newer is) facts (coreOf older k) (core .low) (core .high))
+
+  pub not-lower : (x : ℕ) → F older k x ≤ F newer k x
+  unfolding F
+  not-lower x =
+      response-worse memory-slower (kept-no-more x (taskOf older k) (taskOf newer k) own-kept)
+      (paired-map (kept-no-more x) (kept-higher older newer (sound older was) (sound newer is) facts k low high))
+
+  pub lowest-not-lower : lowest older k ≤ lowest newer k
+  unfolding lowest
+  lowest-not-lower = own-kept .raised .exec
+
+  pub latest-stays : latest (taskOf older k) ≡ latest (taskOf newer k)
+  unfolding latest
+  latest-stays = own-kept .raised .deadline
+
+  pub number-stays : k ≤ newer .tasks
+  number-stays = omega (arith, facts .board .tasks)

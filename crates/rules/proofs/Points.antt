@@ -1,0 +1,77 @@
+-- Points 2 and 3 for the tasks of accepted tables. Assumes nothing.
+use mathlib.Core.Path.{_≡_, refl}
+use mathlib.Core.Bool.{true}
+use Prim.Native.Nat.{ℕ, _≤_}
+use native.Mathlib.Omega.{arith}
+use Rattle.equation.specs.Verdict as outcome
+use Rattle.equation.specs.Start.{FromStart}
+use Rattle.equation.specs.Carry.{carried, Carries}
+use Rattle.equation.proofs.Points.{point-two, from-start, point-three}
+use Rattle.rules.specs.declared.Table.{Table}
+use Rattle.rules.specs.declared.Delay.{Delay}
+use Rattle.rules.specs.Tasks.{latest, taskOf}
+use Rattle.rules.specs.Response.{F, decider}
+use Rattle.rules.specs.Judgement.{withDelay, lowest, roundsOf, judge, boundOf}
+use Rattle.rules.specs.Others.{countsOf, roundLimit}
+use Rattle.rules.specs.Order.{worsens}
+use Rattle.rules.specs.Refusals.{isAccepted, checkTable}
+use Rattle.rules.specs.Operations.{olderBound}
+use Rattle.rules.proofs.Starts.{Judgeable}
+use Rattle.rules.proofs.Instance.{equation-of, steps-of, lowest-fits, limit-of, not-lower, latest-stays, number-stays}
+
+module _ (t : Table) (accepted : isAccepted (checkTable t) ≡ true) (k : ℕ) (low : 1 ≤ k) (high : k ≤ t .tasks) where
+  -- point 2: the verdict from a fresh start is the least solution from 1 to D, or that there is none; and no other is
+  pub fresh-right : outcome.Right (F t k) 1 (latest (taskOf t k)) (roundsOf t k 0 .verdict)
+  unfolding roundsOf
+  fresh-right = point-two (equation-of t accepted k low high) (lowest-fits t accepted k low high) .0
+
+  pub fresh-only : (v : outcome.Verdict) → outcome.Right (F t k) 1 (latest (taskOf t k)) v → v ≡ roundsOf t k 0 .verdict
+  unfolding roundsOf
+  fresh-only = point-two (equation-of t accepted k low high) (lowest-fits t accepted k low high) .1
+
+-- from a start that is not refused: the least solution at or above it, in the rounds of the equation, at most so many
+module _ (t : Table) (k start : ℕ) (j : Judgeable t k start) where
+  pub start-right : FromStart (F t k) (lowest t k) (latest (taskOf t k)) (countsOf t k) start
+  start-right =
+      from-start
+      (equation-of t (j .table) k (j .number .low) (j .number .high))
+      (steps-of t (j .table) k (j .number .low) (j .number .high))
+      (j .allowed)
+
+  pub start-limit : roundsOf t k start .rounds ≤ roundLimit t k
+  unfolding roundsOf
+  start-limit = omega (arith, start-right .limit, limit-of t k)
+
+-- the start that the older bound gives
+bound-carried : (by : ℕ → Delay) (v : outcome.Verdict) → boundOf (withDelay by v) ≡ carried v
+bound-carried by (outcome.holds R) = refl
+bound-carried by outcome.misses = refl
+
+pub older-bound : (t : Table) (k : ℕ) → olderBound t k ≡ carried (roundsOf t k 0 .verdict)
+unfolding olderBound judge
+older-bound t k = bound-carried (decider t k) (roundsOf t k 0 .verdict)
+
+-- point 3: from the older table's bound
+module _ (older newer : Table) (was : isAccepted (checkTable older) ≡ true) (is : isAccepted (checkTable newer) ≡ true)
+    (worse : worsens older newer ≡ true) (k : ℕ) (low : 1 ≤ k) (high : k ≤ older .tasks) where
+  pub carries : Carries (F newer k) (lowest newer k) (latest (taskOf newer k)) (countsOf newer k) (olderBound older k)
+  carries =
+      let stays = latest-stays older newer was is worse k low high in
+      let high′ = number-stays older newer was is worse k low high in
+      rw (older-bound older k)
+      (point-three
+      (equation-of older was k low high)
+      (equation-of newer is k low high′)
+      (steps-of newer is k low high′)
+      (not-lower older newer was is worse k low high)
+      (rw (← stays) (lowest-fits older was k low high))
+      (lowest-fits newer is k low high′)
+      (rw stays at (fresh-right older was k low high)))
+
+  -- the start is not refused
+  pub carried-judgeable : Judgeable newer k (olderBound older k)
+  carried-judgeable = record {
+    table = is;
+    number = record { low = low; high = number-stays older newer was is worse k low high };
+    allowed = carries .allowed;
+  }

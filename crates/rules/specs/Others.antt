@@ -1,0 +1,20 @@
+-- The other tasks that have a part in a task's response equation, and the limit that they set on its rounds. Assumes nothing.
+use mathlib.Core.List.{List, _++_, map}
+use Prim.Native.Nat.{ℕ, _+_, _-_}
+use Rattle.rules.specs.declared.Task.{Task}
+use Rattle.rules.specs.declared.Table.{Table}
+use Rattle.rules.specs.Idioms.{sumOver}
+use Rattle.rules.specs.Tasks.{releases, latest, taskOf, coreOf, higher, elsewhere}
+
+-- the higher tasks of its core, and the tasks elsewhere
+abbrev pub others : Table → ℕ → List Task
+others t k = higher t k ++ elsewhere t (coreOf t k)
+
+-- the counts through which F looks at the time
+abbrev pub countsOf : Table → ℕ → List (ℕ → ℕ)
+countsOf t k = map releases (others t k)
+
+-- two rounds, and for each other task its periods begun within the latest allowed response, less one each:
+-- "Point 3's periods begun are D/Tj rounded up, D being the judged task's and Tj the newer table's."
+abbrev pub roundLimit : Table → ℕ → ℕ
+roundLimit t k = 2 + sumOver (others t k) (λ j. releases j (latest (taskOf t k)) - 1)
