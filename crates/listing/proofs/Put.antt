@@ -1,5 +1,6 @@
 -- Texts that are put one after the other are one text; and what a loop that stores a text byte by byte has still to store. Assumes nothing.
 use mathlib.Core.Path.{_≡_, refl, _∙_}
+use mathlib.Core.Bool.{Bool, true, false, cond}
 use mathlib.Core.List.{List, [], _∷_, _++_}
 use Prim.Native.Nat.{ℕ, suc, _+_, _<_, _≤_}
 use native.Mathlib.Omega.{arith}
@@ -7,7 +8,8 @@ use native.Mathlib.Nat.{add-zero, zero-add}
 use native.Mathlib.Numerals.{add-one}
 use lib.ListN.{length, getD, take, drop, set, length-append, drop-of-length-le}
 use lib.Seq.{sets, sets-eq, drop-cons, take-append-seam}
-use borrow.Author.Tests.{le-leb, lt-leb}
+use lib.Dec.{leb}
+use borrow.Author.Tests.{le-leb, lt-leb, leb-true}
 use Rattle.listing.specs.Put.{Put, Given}
 
 sets-append : (l : List ℕ) (at : ℕ) (v w : List ℕ) → sets (sets l at v) (at + length v) w ≡ sets l at (v ++ w)
@@ -36,10 +38,14 @@ module _ (l : List ℕ) (at : ℕ) (w : List ℕ) (i : ℕ) where
   store-done h = rw (drop-of-length-le w h)
 
 -- what has been put at the start
-pub front : {l r text : List ℕ} {next : ℕ} → Put l 0 text next r → next ≤ length l → take next r ≡ text
-front {l} {r} {text} {next} p h =
-    let e : next ≡ length text = p .ends ∙ zero-add (length text) in
-    rw (p .bytes, e, sets-eq text l 0 (omega arith), take-append-seam)
+module _ {l r text : List ℕ} {next : ℕ} (p : Put l 0 text next r) where
+  pub front-length : next ≡ length text
+  front-length = p .ends ∙ zero-add (length text)
+
+  pub front : next ≤ length l → take next r ≡ text
+  front h =
+      let e = front-length in
+      rw (p .bytes, e, sets-eq text l 0 (omega arith), take-append-seam)
 
 -- a text that does not fit; and one that does, put at the start
 module _ (text out : List ℕ) where
@@ -48,6 +54,14 @@ module _ (text out : List ℕ) where
 
   pub given-whole : {made : ℕ} {after : List ℕ} → length text ≤ length out → Put out 0 text made after → Given text out made after
   given-whole h p = record {
-    length-is = rw (le-leb (length text) (length out) h) (p .ends ∙ zero-add (length text));
+    length-is = rw (le-leb (length text) (length out) h) (front-length p);
     bytes-are = rw (le-leb (length text) (length out) h) (p .bytes ∙ sets-eq text out 0 (omega arith) ∙ rw zero-add);
   }
+
+  -- for who lends the buffer: the part that was given is within it
+  pub given-inside : {made : ℕ} {after : List ℕ} → Given text out made after → made ≤ length out
+  given-inside {made} g = go (leb (length text) (length out)) refl (g .length-is)
+    where
+      go : (b : Bool) → leb (length text) (length out) ≡ b → made ≡ cond b (length text) 0 → made ≤ length out
+      go true e q = omega (arith, leb-true (length text) (length out) e)
+      go false e q = omega arith

@@ -30,9 +30,10 @@ fn put_table(buf: &mut [u8], t: Table, answers: [Answer; 32]) -> usize
 }
 
 // The lines of a table with its answers, whole, and their length; where they do not fit, nothing, and 0.
-// A table whose count is above 32 has no lines.
+// A table whose count is above 32 has no lines. A buffer of 3266 bytes has room for any.
 pub fn lines(t: Table, answers: [Answer; 32], out: &mut [u8]) -> usize
     ensures { λ r. ⌜ Given (tableText t answers) (now (out .entry)) r (now (out .exit)) ⌝ }
+    ensures { λ _. ⌜ length (tableText t answers) ≤ 3266 ⌝ }
 {
     if t.tasks > 32 {
         return 0;
@@ -45,8 +46,9 @@ pub fn lines(t: Table, answers: [Answer; 32], out: &mut [u8]) -> usize
 // "A refusal is the only line": likewise.
 pub fn refused(number: u8, out: &mut [u8]) -> usize
     ensures { λ r. ⌜ Given (refusedLine number) (now (out .entry)) r (now (out .exit)) ⌝ }
+    ensures { λ _. ⌜ length (refusedLine number) ≤ 29 ⌝ }
 {
-    let mut made = [0u8; 32];
+    let mut made = [0u8; 29];
     let word = put_word(&mut made, 0, b"refused ");
     let end = put_number(&mut made, word, number as u64);
     let n = put_word(&mut made, end, b"\n");

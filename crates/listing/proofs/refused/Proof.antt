@@ -4,7 +4,7 @@ use native.Mathlib.Omega.{arith}
 use borrow.Author.Needs.{needs}
 use lib.Seq.{length-take-le}
 use Rattle.listing.specs.Lines.{refusedLine}
-use Rattle.listing.proofs.Put.{_then_, front}
+use Rattle.listing.proofs.Put.{_then_, front-length, front}
 use Rattle.listing.proofs.refused.Statement.{statement}
 use Rattle.listing.proofs.refused.Tie as tie
 
@@ -18,7 +18,8 @@ returns c =
     let newline = give .before .before .before .before in
     let number = newline .before .before .before .before in
     let word = number .before .before .before in
-    rw (front (word .put-word .ensures then number .put-number .ensures .0 then newline .put-word2 .ensures) (omega arith)) at (give .give .ensures)
+    let put = word .put-word .ensures then number .put-number .ensures .0 then newline .put-word2 .ensures in
+    (rw (front put (omega arith)) at (give .give .ensures), omega (arith, front-length put))
 
 pub refused-spec : {M : Type 1} → statement M
 refused-spec =
