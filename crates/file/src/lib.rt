@@ -2,21 +2,24 @@
 
 ghost use mathlib.Core.Path.{_≡_};
 ghost use Prim.Native.Nat.{ℕ, _+_, _-_, _*_, _<_, _≤_};
+ghost use mathlib.Core.List.{map};
 ghost use lib.ListN.{length, take, drop};
 ghost use lib.Seq.{sets};
-ghost use Rattle.rules.specs.Idioms.{number, part, filled};
-ghost use Rattle.rules.specs.Tasks.{noTask};
+ghost use Rattle.rules.specs.Idioms.{joined, filled, number, bytes, part};
+ghost use Rattle.rules.specs.Tasks.{noTask, tasksOf};
 ghost use Rattle.rules.specs.Refusals.{refused};
-ghost use Rattle.rules.specs.File.{fileLength, recordAt, recordTask, coresIn, tasksIn, checkWhole, decode};
+ghost use Rattle.rules.specs.File.{recordAt, fileLength, recordBytes, recordTask, trailer, body, coresIn, tasksIn, checkWhole, decode};
+ghost use Rattle.rules.specs.Operations.{reading, checkView, viewing};
 ghost use Rattle.file.specs.Sums.{sumsOf, checkTrailer};
-ghost use Rattle.file.specs.Places.{figuresIn, tasksTo};
-ghost use Rattle.file.specs.Answers.{readNothing};
+ghost use Rattle.file.specs.Places.{counts, figuresIn, tasksTo};
+ghost use Rattle.file.specs.Answers.{readNothing, wroteNothing, Wrote};
 
 use rules::Picos;
 use rules::Read;
 use rules::Refusal;
 use rules::Table;
 use rules::Task;
+use rules::Written;
 
 // The numbers that two, four and eight bytes give.
 fn le16(s: &[u8], at: usize) -> u16
@@ -125,19 +128,19 @@ pub fn whole(file: &[u8]) -> Refusal
 // ---- the figures of a whole file
 
 // A record's 29 bytes, handed over as a part of the file.
-fn task_in(bytes: &[u8]) -> Task
-    requires { ⌜ length (now bytes) ≡ 29 ⌝ }
-    ensures { λ r. ⌜ r ≡ recordTask (now (bytes .entry)) ⌝ }
+fn task_in(part: &[u8]) -> Task
+    requires { ⌜ length (now part) ≡ 29 ⌝ }
+    ensures { λ r. ⌜ r ≡ recordTask (now (part .entry)) ⌝ }
 {
-    let exec = le64(bytes, 1);
-    let period = le64(bytes, 9);
-    let deadline = le64(bytes, 17);
+    let exec = le64(part, 1);
+    let period = le64(part, 9);
+    let deadline = le64(part, 17);
     Task {
-        core: bytes[0],
+        core: part[0],
         exec: Picos(exec),
         period: Picos(period),
         deadline: Picos(deadline),
-        requests: le32(bytes, 25),
+        requests: le32(part, 25),
     }
 }
 
@@ -236,5 +239,184 @@ fn no_table(refusal: Refusal) -> Read
     Read {
         refusal: refusal,
         table: table,
+    }
+}
+
+// Reading: 1 to 4, then 5 to 11. Counts that have no room in a table are refused before the figures are looked at.
+pub fn read(file: &[u8]) -> Read
+    ensures { λ r. ⌜ r ≡ reading (now (file .entry)) ⌝ }
+{
+    let came = whole(file);
+    if came.number != 0 {
+        return no_table(came);
+    }
+    if 8 < file[0] {
+        return no_table(no_place(5));
+    }
+    if 32 < file[2] {
+        return no_table(no_place(5));
+    }
+    let found = table_in(file);
+    let refusal = table::check(found);
+    if refusal.number != 0 {
+        return no_table(refusal);
+    }
+    Read {
+        refusal: refusal,
+        table: found,
+    }
+}
+
+// ---- the record of a task, shown as a part of the file
+
+// 1 to 12.
+pub fn view_refusal(file: &[u8], k: u8) -> Refusal
+    ensures { λ r. ⌜ r ≡ checkView (now (file .entry)) k ⌝ }
+{
+    let got = read(file);
+    let refusal = got.refusal;
+    if refusal.number != 0 {
+        return refusal;
+    }
+    if k < 1 {
+        return no_place(12);
+    }
+    if file[2] < k {
+        return no_place(12);
+    }
+    no_place(0)
+}
+
+// "a refused view an empty part"
+pub fn view<'a>(file: &'a [u8], k: u8) -> &'a [u8]
+    ensures { λ r. ⌜ now r ≡ viewing (now (file .entry)) k ⌝ }
+{
+    let refusal = view_refusal(file, k);
+    if refusal.number != 0 {
+        return &file[0..0];
+    }
+    let a = record_at(file[3], file[0], size(k));
+    let e = a + 29;
+    &file[a..e]
+}
+
+// ---- the bytes of a table
+
+// The n lowest bytes of v, from a place on.
+fn put(out: &mut [u8], at: usize, v: u64, n: usize)
+    requires { ⌜ at + n ≤ length (now out) ⌝ }
+    ensures { λ _. ⌜ now (out .exit) ≡ sets (now (out .entry)) at (bytes n v) ⌝ }
+{
+    let mut w = v;
+    let mut i: usize = 0;
+    while i < n {
+        out[at + i] = (w % 256) as u8;
+        w = w / 256;
+        i += 1;
+    }
+}
+
+// The first n figures, two bytes each.
+fn put_figures(out: &mut [u8], at: usize, figures: &[u16], n: usize)
+    requires { ⌜ n ≤ length (now figures) ⌝ }
+    requires { ⌜ n ≤ 255 ⌝ }
+    requires { ⌜ at + 2 * n ≤ length (now out) ⌝ }
+    ensures { λ _. ⌜ now (out .exit) ≡ sets (now (out .entry)) at (joined (map (bytes 2) (take n (now (figures .entry))))) ⌝ }
+{
+    let mut i: usize = 0;
+    while i < n {
+        put(out, at + 2 * i, figures[i] as u64, 2);
+        i += 1;
+    }
+}
+
+fn put_task(out: &mut [u8], at: usize, form: u8, task: Task)
+    requires { ⌜ at + 29 ≤ length (now out) ⌝ }
+    ensures { λ _. ⌜ now (out .exit) ≡ sets (now (out .entry)) at (recordBytes form task) ⌝ }
+{
+    put(out, at, task.core as u64, 1);
+    put(out, at + 1, task.exec.0, 8);
+    put(out, at + 9, task.period.0, 8);
+    put(out, at + 17, task.deadline.0, 8);
+    put(out, at + 25, task.requests as u64, 4);
+}
+
+fn put_tasks(out: &mut [u8], t: Table)
+    requires { ⌜ t .tasks ≤ 32 ⌝ }
+    requires { ⌜ 34 + 2 * t .cores + 29 * t .tasks ≤ length (now out) ⌝ }
+    ensures { λ _. ⌜ now (out .exit) ≡ sets (now (out .entry)) (34 + 2 * t .cores) (joined (map (recordBytes (t .fourth)) (tasksOf t))) ⌝ }
+{
+    let n = size(t.tasks);
+    let mut i: usize = 0;
+    while i < n {
+        let task = t.task[i];
+        put_task(out, record_at(t.fourth, t.cores, i + 1), t.fourth, task);
+        i += 1;
+    }
+}
+
+fn put_counts(out: &mut [u8], t: Table)
+    requires { ⌜ 4 ≤ length (now out) ⌝ }
+    ensures { λ _. ⌜ now (out .exit) ≡ sets (now (out .entry)) 0 (counts t) ⌝ }
+{
+    out[0] = t.cores;
+    out[1] = t.partitions;
+    out[2] = t.tasks;
+    out[3] = t.fourth;
+}
+
+// What stands before the trailer.
+fn put_body(out: &mut [u8], t: Table)
+    requires { ⌜ t .cores ≤ 8 ⌝ }
+    requires { ⌜ t .tasks ≤ 32 ⌝ }
+    requires { ⌜ 34 + 2 * t .cores + 29 * t .tasks ≤ length (now out) ⌝ }
+    ensures { λ _. ⌜ now (out .exit) ≡ sets (now (out .entry)) 0 (body t) ⌝ }
+{
+    put_counts(out, t);
+    let timing = t.timing;
+    put_figures(out, 4, &timing[..], 15);
+    let figures = t.sets;
+    put_figures(out, 34, &figures[..], size(t.cores));
+    put_tasks(out, t);
+}
+
+fn put_trailer(out: &mut [u8], e: usize)
+    requires { ⌜ e ≤ 7939 ⌝ }
+    requires { ⌜ e + 12 ≤ length (now out) ⌝ }
+    ensures { λ _. ⌜ now (out .exit) ≡ sets (now (out .entry)) e (trailer (take e (now (out .entry)))) ⌝ }
+{
+    let total = sums(&out[..e]);
+    put(out, e, e as u64, 4);
+    put(out, e + 4, total.sum, 4);
+    put(out, e + 8, total.running, 4);
+}
+
+// "a refused writing the length 0"
+fn nothing(refusal: Refusal) -> Written
+    ensures { λ r. ⌜ r ≡ wroteNothing refusal ⌝ }
+{
+    Written {
+        refusal: refusal,
+        length: 0,
+    }
+}
+
+// Writing: 5 to 11, then 15. No byte is touched before all of them are passed.
+pub fn write(t: Table, out: &mut [u8]) -> Written
+    ensures { λ r. ⌜ Wrote t (now (out .entry)) r (now (out .exit)) ⌝ }
+{
+    let refusal = table::check(t);
+    if refusal.number != 0 {
+        return nothing(refusal);
+    }
+    let n = file_length(t.fourth, t.cores, t.tasks);
+    if out.len() < n {
+        return nothing(no_place(15));
+    }
+    put_body(out, t);
+    put_trailer(out, n - 12);
+    Written {
+        refusal: no_place(0),
+        length: n,
     }
 }

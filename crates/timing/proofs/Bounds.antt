@@ -1,6 +1,5 @@
 -- How large the delay figures of a sound row get, in cycles and as times. Assumes nothing.
 use Prim.Native.Nat.{ℕ, _+_, _-_, _*_, _/_, _≤_, _<_, _^_, min}
-use mathlib.Core.Path.{_≡_, ap}
 use mathlib.Core.Bool.{Bool, true, false, cond}
 use native.Mathlib.Nat.{mul-le-mul, div-le-of-le-mul, max-le}
 use native.Mathlib.Omega.{arith}

@@ -1,6 +1,5 @@
 -- A chain of refusals, as code walks it: a link that refuses is the answer, and after one that passes the rest is. Assumes nothing.
 use mathlib.Core.Path.{_≡_, sym, _∙_}
-use Prim.Native.Nat.{ℕ}
 use borrow.Author.Tests.{eq-eqb, ne-eqb}
 use Rattle.rules.specs.declared.Refusal.{Refusal}
 use Rattle.rules.specs.Refusals.{_orElse_}

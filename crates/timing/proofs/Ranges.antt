@@ -1,12 +1,12 @@
 -- The table of limits is the rule's list, so what it says of a figure is what the rule says. Assumes nothing.
-use mathlib.Core.Path.{_≡_, refl, _∙_}
-use mathlib.Core.Bool.{Bool, true, false, not, _&&_, _||_}
-use mathlib.Core.List.{List, map}
 use Prim.Native.Nat.{ℕ, _+_, _-_}
+use mathlib.Core.Path.{_≡_, refl}
+use mathlib.Core.Bool.{Bool, true, false, _&&_}
+use mathlib.Core.List.{List, map}
 use native.Mathlib.Omega.{arith}
-use borrow.Author.Tests.{eqb-true}
 use lib.Dec.{eqb}
 use lib.ListN.{getD, List·getD-map}
+use borrow.Author.Tests.{eqb-true}
 use Rattle.rules.specs.Timing.{Row, BL, ranges}
 use Rattle.rules.specs.Refusals.{figureFault}
 use Rattle.timing.specs.declared.Limits.{Limits}

@@ -1,9 +1,9 @@
 -- Which relation is the first that is broken, by its own comparison and those before it. Assumes nothing.
+use Prim.Native.Nat.{_+_, _/_, _%_, _≤_, _<_}
 use mathlib.Core.Path.{_≡_, refl, sym, _∙_}
 use mathlib.Core.Bool.{cond, not}
-use Prim.Native.Nat.{ℕ, _+_, _/_, _%_, _≤_, _<_}
-use borrow.Author.Tests.{le-leb, lt-leb, lt-ltb, le-ltb, eq-eqb, ne-eqb}
 use lib.Dec.{leb, ltb, eqb}
+use borrow.Author.Tests.{le-leb, lt-leb, lt-ltb, le-ltb, eq-eqb, ne-eqb}
 use Rattle.rules.specs.Timing.{Row, CL, WL, BL, tWTR, tWR, tRCD, tRAS, tRTP, Ncols}
 use Rattle.rules.specs.Delays.{hit}
 use Rattle.rules.specs.Refusals.{accepted, refused, firstFrom, first, relationsHold, relationFault}

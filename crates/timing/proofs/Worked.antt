@@ -1,6 +1,6 @@
 -- The delay figures as code works them out: differences cut off at zero, and window by its two cases. Assumes nothing.
+use Prim.Native.Nat.{_+_, _*_, _-_, _/_, min, max}
 use mathlib.Core.Path.{_≡_}
-use Prim.Native.Nat.{ℕ, _+_, _*_, _-_, _/_, min, max}
 use native.Mathlib.Nat.{sub-zero}
 use borrow.Author.Tests.{eq-eqb, ne-eqb}
 use Rattle.rules.specs.Timing.{Row, CL, WL, BL, tWTR, tRRD, tFAW, tRTRS, Ncols, Ncap, unknown}

@@ -1,5 +1,5 @@
 -- The figures that a core's delays are made of, as times, and how large they get. Assumes nothing.
-use Prim.Native.Nat.{ℕ, _*_, _≤_}
+use Prim.Native.Nat.{_*_, _≤_}
 use Rattle.rules.specs.Timing.{Row}
 use Rattle.rules.specs.Units.{_⊕_, inTime}
 use Rattle.rules.specs.Delays.{pre, act, readwrite, reopen, conf, run, window}

@@ -1,6 +1,6 @@
 // Document 01's timing row as code: its ranges and relations, and the delay figures, in cycles, then times tCK.
 ghost use mathlib.Core.Path.{_≡_};
-ghost use Prim.Native.Nat.{ℕ, _+_, _-_, _*_, _/_, _%_, _<_, _≤_, _^_, min, max};
+ghost use Prim.Native.Nat.{_+_, _-_, _*_, _/_, _%_, _<_, _≤_, _^_, min, max};
 ghost use lib.ListN.{getD};
 ghost use Rattle.rules.specs.Timing.{tCK, CL, WL, BL, tWTR, ddr3-1333};
 ghost use Rattle.rules.specs.Units.{inTime, _⊕_};

@@ -10,7 +10,7 @@ returns : tie.Need-returns
 unfolding recordTask
 returns c =
     let d = c .before .before in
-    let s = d .before .before .before .before .args .bytes .now in
+    let s = d .before .before .before .before .args .part .now in
     rw (d .before .before .le64 .ensures, d .before .le642 .ensures, d .le643 .ensures, c .le32 .ensures, ← number-one s 0 (omega arith))
 
 pub task-in-spec : {M : Type 1} → statement M

@@ -1,6 +1,6 @@
 -- `timing::act` works act out with its difference cut off at zero. Assumes nothing.
-use Rattle.timing.proofs.Worked.{act-cut}
 use borrow.Author.Needs.{needs}
+use Rattle.timing.proofs.Worked.{act-cut}
 use Rattle.timing.proofs.act.Statement.{statement}
 use Rattle.timing.proofs.act.Tie as tie
 

@@ -1,6 +1,6 @@
 -- The walk over the ranges gives the first figure at fault: the table of limits is the rule's list, tested whole where the loop begins. Assumes nothing.
-use mathlib.Core.Path.{_≡_, refl, sym, _∙_}
 use Prim.Native.Nat.{_-_}
+use mathlib.Core.Path.{refl, sym, _∙_}
 use borrow.Author.Needs.{needs}
 use Rattle.rules.specs.Timing.{ranges}
 use Rattle.rules.specs.Refusals.{figureFault}

@@ -1,10 +1,7 @@
 -- The comparisons of `timing::check_relations` are the relations, in their order. Assumes nothing.
-use mathlib.Core.Path.{_≡_}
-use Prim.Native.Nat.{_%_}
 use native.Mathlib.Omega.{arith}
-use Rattle.rules.specs.Timing.{Ncols, BL}
-use Rattle.timing.proofs.Relations.{broken-1, broken-2, broken-3, broken-4, broken-5, none-broken}
 use borrow.Author.Needs.{needs}
+use Rattle.timing.proofs.Relations.{broken-1, broken-2, broken-3, broken-4, broken-5, none-broken}
 use Rattle.timing.proofs.check_relations.Statement.{statement}
 use Rattle.timing.proofs.check_relations.Tie as tie
 

@@ -1,7 +1,7 @@
 -- `timing::check_timing` checks in the rule's order. Assumes nothing.
+use borrow.Author.Needs.{needs}
 use Rattle.rules.specs.Refusals.{checkTiming}
 use Rattle.timing.proofs.Links.{stops, goes-on}
-use borrow.Author.Needs.{needs}
 use Rattle.timing.proofs.check_timing.Statement.{statement}
 use Rattle.timing.proofs.check_timing.Tie as tie
 

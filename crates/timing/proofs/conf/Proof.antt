@@ -1,6 +1,6 @@
 -- `timing::conf` meets its contract. Assumes nothing.
-use Rattle.rules.specs.Delays.{reopen, conf}
 use borrow.Author.Needs.{needs}
+use Rattle.rules.specs.Delays.{reopen, conf}
 use Rattle.timing.proofs.conf.Statement.{statement}
 use Rattle.timing.proofs.conf.Tie as tie
 

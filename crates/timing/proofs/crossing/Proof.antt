@@ -1,7 +1,7 @@
 -- `timing::crossing` meets its contract: at most 390 cycles. Assumes nothing.
 use native.Mathlib.Omega.{arith}
-use Rattle.timing.proofs.Bounds.{crossing-high}
 use borrow.Author.Needs.{needs}
+use Rattle.timing.proofs.Bounds.{crossing-high}
 use Rattle.timing.proofs.crossing.Statement.{statement}
 use Rattle.timing.proofs.crossing.Tie as tie
 

@@ -1,8 +1,8 @@
 -- `timing::figures_of` meets its contract: every figure of a sound row fits as a time. Assumes nothing.
 use native.Mathlib.Omega.{arith}
+use borrow.Author.Needs.{needs}
 use Rattle.timing.specs.Figures.{figuresOf}
 use Rattle.timing.proofs.Bounds.{fits-in-time, crossing-high, conf-high, readwrite-high, reopen-high, window-high, run-high}
-use borrow.Author.Needs.{needs}
 use Rattle.timing.proofs.figures_of.Statement.{statement}
 use Rattle.timing.proofs.figures_of.Tie as tie
 

@@ -1,6 +1,6 @@
 -- `timing::hit` meets its contract. Assumes nothing.
-use Rattle.rules.specs.Delays.{hit}
 use borrow.Author.Needs.{needs}
+use Rattle.rules.specs.Delays.{hit}
 use Rattle.timing.proofs.hit.Statement.{statement}
 use Rattle.timing.proofs.hit.Tie as tie
 

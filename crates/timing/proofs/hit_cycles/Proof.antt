@@ -1,6 +1,6 @@
 -- `timing::hit_cycles` meets its contract. Assumes nothing.
-use Rattle.rules.specs.Delays.{hit}
 use borrow.Author.Needs.{needs}
+use Rattle.rules.specs.Delays.{hit}
 use Rattle.timing.proofs.hit_cycles.Statement.{statement}
 use Rattle.timing.proofs.hit_cycles.Tie as tie
 

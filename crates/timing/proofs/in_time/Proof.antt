@@ -1,6 +1,6 @@
 -- `timing::in_time` meets its contract: the product is the one that it asks to fit. Assumes nothing.
-use Rattle.rules.specs.Units.{inTime}
 use borrow.Author.Needs.{needs}
+use Rattle.rules.specs.Units.{inTime}
 use Rattle.timing.proofs.in_time.Statement.{statement}
 use Rattle.timing.proofs.in_time.Tie as tie
 

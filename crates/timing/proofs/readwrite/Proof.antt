@@ -1,6 +1,6 @@
 -- `timing::readwrite` works rw out with its differences cut off at zero. Assumes nothing.
-use Rattle.timing.proofs.Worked.{readwrite-cut}
 use borrow.Author.Needs.{needs}
+use Rattle.timing.proofs.Worked.{readwrite-cut}
 use Rattle.timing.proofs.readwrite.Statement.{statement}
 use Rattle.timing.proofs.readwrite.Tie as tie
 

@@ -1,6 +1,6 @@
 -- `timing::reopen` meets its contract. Assumes nothing.
-use Rattle.rules.specs.Delays.{reopen}
 use borrow.Author.Needs.{needs}
+use Rattle.rules.specs.Delays.{reopen}
 use Rattle.timing.proofs.reopen.Statement.{statement}
 use Rattle.timing.proofs.reopen.Tie as tie
 

@@ -1,6 +1,6 @@
 -- `timing::run` meets its contract. Assumes nothing.
-use Rattle.rules.specs.Delays.{run}
 use borrow.Author.Needs.{needs}
+use Rattle.rules.specs.Delays.{run}
 use Rattle.timing.proofs.run.Statement.{statement}
 use Rattle.timing.proofs.run.Tie as tie
 

@@ -1,8 +1,8 @@
 -- `timing::window` meets its contract. Assumes nothing.
 use mathlib.Core.Path.{_≡_}
+use borrow.Author.Needs.{needs}
 use Rattle.rules.specs.Timing.{Ncap, unknown}
 use Rattle.timing.proofs.Worked.{window-unknown, window-capped}
-use borrow.Author.Needs.{needs}
 use Rattle.timing.proofs.window.Statement.{statement}
 use Rattle.timing.proofs.window.Tie as tie
 
