@@ -4,7 +4,7 @@ fn main() {
     // bytes are too (`front-lists` of listing/proofs/Long.antt), so no more are read.
     let mut file = [0u8; 7952];
     let n = io::read_full(libc::STDIN_FILENO, &mut file);
-    let mut out = [0u8; 4096];
+    let mut out = [0u8; 3266];
     let m = listing::list(&file[..n], &mut out);
     io::write_all(libc::STDOUT_FILENO, &out[..m]);
 }

@@ -3,6 +3,7 @@
 --     Decimal    the digits of a number
 --     TaskLines  the lines of the tasks and of a table
 --     Missed     the first task that misses
+--     Long       how much of a file there is to read
 pub mod Put
 pub mod Decimal
 pub mod TaskLines

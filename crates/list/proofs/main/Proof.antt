@@ -1,30 +1,18 @@
--- `main` is safe: what it writes lies within its buffer, whatever is listed. Assumes nothing.
-use mathlib.Core.Path.{_≡_, refl, sym}
-use mathlib.Core.Bool.{Bool, true, false, cond}
-use mathlib.Core.List.{List}
-use Prim.Native.Nat.{ℕ, _≤_}
+-- `main` is safe: the part that it writes lies within its buffer. Assumes nothing.
+use mathlib.Core.Path.{sym}
 use native.Mathlib.Omega.{arith}
-use lib.Dec.{leb}
-use lib.ListN.{length}
 use lib.Seq.{length-take-le}
 use borrow.Author.Needs.{needs}
-use borrow.Author.Tests.{leb-true}
-use Rattle.listing.specs.Put.{Given}
+use Rattle.listing.proofs.Put.{given-inside}
 use Rattle.list.proofs.main.Statement.{statement}
 use Rattle.list.proofs.main.Tie as tie
 
-fits : (b : Bool) (n room : ℕ) → leb n room ≡ b → cond b n 0 ≤ room
-fits true n room e = omega (arith, leb-true n room e)
-fits false n room e = omega arith
-
-given-fits : {text out after : List ℕ} {made : ℕ} → Given text out made after → made ≤ length out
-given-fits {text} {out} g = rw (g .length-is) (fits (leb (length text) (length out)) (length text) (length out) refl)
-
 array-share-prefix-out : tie.Need-array-share-prefix-out
-array-share-prefix-out c = omega (arith, given-fits (c .before .list .ensures))
+array-share-prefix-out c = let inside = given-inside _ _ (c .before .list .ensures .0) in omega arith
 
 slice-aggregate-write-all : tie.Need-slice-aggregate-write-all
-slice-aggregate-write-all c = sym (length-take-le _ _ (omega (arith, given-fits (c .before .before .list .ensures))))
+slice-aggregate-write-all c =
+    let inside = given-inside _ _ (c .before .before .list .ensures .0) in sym (length-take-le _ _ (omega arith))
 
 pub main-spec : {M : Type 1} → statement M
 main-spec =
