@@ -1,4 +1,4 @@
-// Answers a stream of cases, each of an operation's letter, its payload's length in 2 bytes and the payload: README.md beside this folder.
+// Answers a stream of cases, each of an operation's letter, its payload's length in 2 bytes and the payload: ../README.md.
 mod lines;
 mod raw;
 
