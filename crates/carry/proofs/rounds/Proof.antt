@@ -1,5 +1,5 @@
 -- `rounds` is safe and ends. Assumes nothing.
-use Prim.Native.Nat.{_≤_, _-_, _*_}
+use Prim.Native.Nat.{_≤_, _-_}
 use borrow.Author.Needs.{needs}
 use Rattle.carry.proofs.rounds.Statement.{statement}
 use Rattle.carry.proofs.rounds.Tie as tie

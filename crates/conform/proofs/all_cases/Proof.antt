@@ -1,5 +1,4 @@
 -- `all_cases` is safe and ends: the turns that are left fall. Assumes nothing.
-use Prim.Native.Nat.{_≤_, _-_, _*_}
 use mathlib.Core.Path.{_≡_}
 use lib.ListN.{length}
 use borrow.Author.Needs.{needs}

@@ -1,5 +1,5 @@
 -- `is_same` is safe and ends: the place passes over the first slice. Assumes nothing.
-use Prim.Native.Nat.{_≤_, _-_, _*_}
+use Prim.Native.Nat.{_≤_, _-_}
 use lib.ListN.{length}
 use borrow.Author.Needs.{needs}
 use Rattle.conform.proofs.is_same.Statement.{statement}

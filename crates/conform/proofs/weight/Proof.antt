@@ -12,18 +12,6 @@ Inv-loop s i₀ rest₀ total₀ i rest total = (i ≤ length s) × (length s �
 abbrev μ-loop : tie.MeasureT-loop
 μ-loop s i₀ rest₀ total₀ i rest total = i
 
-cast-rest : tie.Need-cast-rest Inv-loop μ-loop
-cast-rest c = omega (arith, c .shared-slice-known .given (c .before .before .loop .i - 1))
-
-add-rest : tie.Need-add-rest Inv-loop μ-loop
-add-rest c = omega (arith, c .shared-slice-known .given (c .before .before .loop .i - 1))
-
-add-total : tie.Need-add-total Inv-loop μ-loop
-add-total c = omega (arith, c .shared-slice-known .given (c .before .before .loop .i - 1))
-
-loop-again : tie.Need-loop-again Inv-loop μ-loop
-loop-again c = omega (arith, c .shared-slice-known .given (c .before .before .loop .i - 1))
-
 pub weight-spec : {M : Type 1} → statement M
 weight-spec =
     tie.close
@@ -33,9 +21,9 @@ weight-spec =
     (λ c. search needs)
     (λ c. search needs)
     (λ c. search needs)
-    cast-rest
-    add-rest
-    add-total
+    (λ c. omega (arith, c .shared-slice-known .given (c .before .before .loop .i - 1)))
+    (λ c. omega (arith, c .shared-slice-known .given (c .before .before .loop .i - 1)))
+    (λ c. omega (arith, c .shared-slice-known .given (c .before .before .loop .i - 1)))
     (λ c. search needs)
-    loop-again
+    (λ c. omega (arith, c .shared-slice-known .given (c .before .before .loop .i - 1)))
     (λ c. search needs))
