@@ -3,17 +3,11 @@
 --     Decimal    the digits of a number
 --     TaskLines  the lines of the tasks and of a table
 --     Missed     the first task that misses
-<<<<<<< HEAD
 --     Listed     what is listed for a file, by what reading it gave
-=======
 --     Long       how much of a file there is to read
->>>>>>> 1f45d9821487ac5ade8adfe5f5bd791920365ee3
 pub mod Put
 pub mod Decimal
 pub mod TaskLines
 pub mod Missed
-<<<<<<< HEAD
 pub mod Listed
-=======
 pub mod Long
->>>>>>> 1f45d9821487ac5ade8adfe5f5bd791920365ee3
