@@ -11,9 +11,9 @@ ghost use Rattle.rules.specs.Operations.{judgeOne, judgeAll, answersFrom};
 ghost use Rattle.rounds.specs.Numbered.{notJudged};
 ghost use Rattle.judge.specs.Same.{alikeTo, allWorse};
 ghost use Rattle.judge.specs.Links.{checkStart};
-ghost use Rattle.judge.specs.Carried.{startOf, olderStarts, AllAllowed};
+ghost use Rattle.judge.specs.Carried.{startOf, olderStarts, AllAllowed, notRejudged, Carried};
 
-use rules::{AllJudged, Answer, Judged, Refusal, Table, Task, Verdict};
+use rules::{AllJudged, Answer, Judged, Refusal, Rejudged, Table, Task, Verdict};
 
 // The same task with C and H as they were or raised, and T as it was or shortened.
 fn worse_task(i: Task, j: Task) -> bool
@@ -214,4 +214,46 @@ fn older_starts(older: Table) -> [u64; 32]
         i += 1;
     }
     starts
+}
+
+fn not_rejudged(refusal: Refusal) -> Rejudged
+    ensures { λ r. ⌜ r ≡ notRejudged refusal ⌝ }
+{
+    let none = rounds::none_judged(refusal);
+    let answers = none.answers;
+    Rejudged {
+        refusal,
+        carried: false,
+        answers,
+    }
+}
+
+// The newer table after the older one: each task from its older bound where the newer table is the older one worsened, else fresh.
+pub fn judge_carried(older: Table, newer: Table) -> Rejudged
+    ensures { λ r. ⌜ Carried older newer r ⌝ }
+{
+    let was = table::check(older);
+    if was.number != 0 {
+        return not_rejudged(was);
+    }
+    let is = table::check(newer);
+    if is.number != 0 {
+        return not_rejudged(is);
+    }
+    if worsens(older, newer) {
+        let starts = older_starts(older);
+        let from_bounds = answers(newer, starts);
+        return Rejudged {
+            refusal: is,
+            carried: true,
+            answers: from_bounds,
+        };
+    }
+    let fresh = [0u64; 32];
+    let from_fresh = answers(newer, fresh);
+    Rejudged {
+        refusal: is,
+        carried: false,
+        answers: from_fresh,
+    }
 }
