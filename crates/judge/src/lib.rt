@@ -12,8 +12,14 @@ ghost use Rattle.rounds.specs.Numbered.{notJudged};
 ghost use Rattle.judge.specs.Same.{alikeTo, allWorse};
 ghost use Rattle.judge.specs.Links.{checkStart};
 ghost use Rattle.judge.specs.Carried.{startOf, olderStarts, AllAllowed, notRejudged, Carried};
-
-use rules::{AllJudged, Answer, Judged, Refusal, Rejudged, Table, Task, Verdict};
+use rules::AllJudged;
+use rules::Answer;
+use rules::Judged;
+use rules::Refusal;
+use rules::Rejudged;
+use rules::Table;
+use rules::Task;
+use rules::Verdict;
 
 // The same task with C and H as they were or raised, and T as it was or shortened.
 fn worse_task(i: Task, j: Task) -> bool
