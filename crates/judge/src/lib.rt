@@ -1,15 +1,25 @@
 // Judgement of one task, of all, and of a newer table after an older one: the refusals in their order, then the rounds.
 ghost use mathlib.Core.Path.{_≡_};
+ghost use mathlib.Core.Bool.{true};
 ghost use lib.ListN.{length};
+ghost use Rattle.rules.specs.Idioms.{entry};
 ghost use Rattle.rules.specs.Order as Order;
 ghost use Rattle.rules.specs.Order.{worseTask, sameBoard};
 ghost use Rattle.rules.specs.Refusals as Refusals;
-ghost use Rattle.rules.specs.Operations.{judgeOne, judgeAll};
+ghost use Rattle.rules.specs.Refusals.{isAccepted, checkTable};
+ghost use Rattle.rules.specs.Operations.{judgeOne, judgeAll, answersFrom};
 ghost use Rattle.rounds.specs.Numbered.{notJudged};
 ghost use Rattle.judge.specs.Same.{alikeTo, allWorse};
 ghost use Rattle.judge.specs.Links.{checkStart};
-
-use rules::{AllJudged, Judged, Refusal, Table, Task};
+ghost use Rattle.judge.specs.Carried.{startOf, olderStarts, AllAllowed, notRejudged, Carried};
+use rules::AllJudged;
+use rules::Answer;
+use rules::Judged;
+use rules::Refusal;
+use rules::Rejudged;
+use rules::Table;
+use rules::Task;
+use rules::Verdict;
 
 // The same task with C and H as they were or raised, and T as it was or shortened.
 fn worse_task(i: Task, j: Task) -> bool
@@ -172,4 +182,84 @@ pub fn judge_all(table: Table, starts: [u64; 32]) -> AllJudged
         return rounds::none_judged(late);
     }
     rounds::judge_tasks(table, starts)
+}
+
+// The answers of an accepted table from starts none of which is refused.
+fn answers(table: Table, starts: [u64; 32]) -> [Answer; 32]
+    requires { ⌜ isAccepted (checkTable table) ≡ true ⌝ }
+    requires { ⌜ AllAllowed table starts ⌝ }
+    ensures { λ r. ⌜ r ≡ answersFrom table (entry 0 starts) ⌝ }
+{
+    let judged = rounds::judge_tasks(table, starts);
+    let all = judged.answers;
+    all
+}
+
+fn start_of(answer: Answer) -> u64
+    ensures { λ r. ⌜ r ≡ startOf answer ⌝ }
+{
+    let verdict = answer.verdict;
+    match verdict {
+        Verdict::Holds(bound, _) => bound.0,
+        Verdict::Misses => 0,
+    }
+}
+
+// "each task started from its older bound, or 0 where it missed"
+fn older_starts(older: Table) -> [u64; 32]
+    requires { ⌜ isAccepted (checkTable older) ≡ true ⌝ }
+    ensures { λ r. ⌜ r ≡ olderStarts older ⌝ }
+{
+    let fresh = [0u64; 32];
+    let all = answers(older, fresh);
+    let mut starts = [0u64; 32];
+    let mut i: usize = 0;
+    while i < 32 {
+        let answer = all[i];
+        starts[i] = start_of(answer);
+        i += 1;
+    }
+    starts
+}
+
+fn not_rejudged(refusal: Refusal) -> Rejudged
+    ensures { λ r. ⌜ r ≡ notRejudged refusal ⌝ }
+{
+    let none = rounds::none_judged(refusal);
+    let answers = none.answers;
+    Rejudged {
+        refusal,
+        carried: false,
+        answers,
+    }
+}
+
+// The newer table after the older one: each task from its older bound where the newer table is the older one worsened, else fresh.
+pub fn judge_carried(older: Table, newer: Table) -> Rejudged
+    ensures { λ r. ⌜ Carried older newer r ⌝ }
+{
+    let was = table::check(older);
+    if was.number != 0 {
+        return not_rejudged(was);
+    }
+    let is = table::check(newer);
+    if is.number != 0 {
+        return not_rejudged(is);
+    }
+    if worsens(older, newer) {
+        let starts = older_starts(older);
+        let from_bounds = answers(newer, starts);
+        return Rejudged {
+            refusal: is,
+            carried: true,
+            answers: from_bounds,
+        };
+    }
+    let fresh = [0u64; 32];
+    let from_fresh = answers(newer, fresh);
+    Rejudged {
+        refusal: is,
+        carried: false,
+        answers: from_fresh,
+    }
 }

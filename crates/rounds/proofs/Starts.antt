@@ -19,15 +19,16 @@ module _ (m : Terms) (deadline given : ℕ) {start : ℕ} {first : Applied} (rai
   lowered h = let q : timeOf m (startFrom m given) < startFrom m given = rw raised at (rw (time-is m start is) at h) in rw (lt-ltb _ _ q)
 
   pub begins : Ready m deadline given → start ≤ first .time → Ready m deadline start × Begun m start first
-  begins ok h =
-      (record {
-        fair = ok .fair;
-        exec-low = ok .exec-low;
-        exec-high = ok .exec-high;
-        deadline-high = ok .deadline-high;
-        given-high = omega (arith, ok .exec-high, ok .given-high);
-      },
-      record { low = omega arith; rises = h; is = is })
+  begins ok h = (
+    record {
+      fair = ok .fair;
+      exec-low = ok .exec-low;
+      exec-high = ok .exec-high;
+      deadline-high = ok .deadline-high;
+      given-high = omega (arith, ok .exec-high, ok .given-high);
+    },
+    record { low = omega arith; rises = h; is = is },
+  )
 
   -- from the raised start the rounds are those from the given one
   same-answer : answerOf m deadline start ≡ answerOf m deadline given

@@ -12,8 +12,13 @@ ghost use Rattle.rounds.specs.Numbered.{climbedFor, firstLate, noneJudge
 ghost use Rattle.rounds.specs.Terms.{Counted, Higher, Demanded, Away, Delayed, Fair, termsOf, applied};
 ghost use Rattle.rounds.specs.Run.{Ready, Begun, answerOf, climbed};
 ghost use Rattle.rounds.specs.Columns.{OneIf, Aligned, HigherGathered, Weighable, loadsBy, Reachable, AwayGathered, Placed, termsAt, Room, Filled};
-
-use rules::{AllJudged, Answer, Delay, Picos, Refusal, Table, Verdict};
+use rules::AllJudged;
+use rules::Answer;
+use rules::Delay;
+use rules::Picos;
+use rules::Refusal;
+use rules::Table;
+use rules::Verdict;
 
 // "t/T rounded up"
 fn up(t: u64, period: u64) -> u64
@@ -168,11 +173,7 @@ fn climb(
 fn larger(a: u64, b: u64) -> u64
     ensures { λ r. ⌜ r ≡ max a b ⌝ }
 {
-    if a < b {
-        b
-    } else {
-        a
-    }
+    if a < b { b } else { a }
 }
 
 // The rounds from the larger of C and the given start, where F does not lower that.
@@ -200,7 +201,17 @@ fn settle(
             },
         };
     }
-    let answer = climb(own, periods, execs, asks, away, loads, deadline, start, first);
+    let answer = climb(
+        own,
+        periods,
+        execs,
+        asks,
+        away,
+        loads,
+        deadline,
+        start,
+        first,
+    );
     Climbed {
         high: false,
         answer,
@@ -210,11 +221,7 @@ fn settle(
 fn same(a: u8, b: u8) -> usize
     ensures { λ r. ⌜ OneIf (eqb a b) r ⌝ }
 {
-    if a == b {
-        1
-    } else {
-        0
-    }
+    if a == b { 1 } else { 0 }
 }
 
 // T, C and H of the places before k on the core of place k. Each is written at the next place, which counts only where the core is the one.
@@ -308,11 +315,37 @@ fn judge_at(
     let mut spans = [0u64; 32];
     let mut costs = [0u64; 32];
     let mut asks = [0u64; 32];
-    let n = higher(k, cores, periods, execs, requests, &mut spans, &mut costs, &mut asks);
+    let n = higher(
+        k,
+        cores,
+        periods,
+        execs,
+        requests,
+        &mut spans,
+        &mut costs,
+        &mut asks,
+    );
     let mut away = [0u64; 32];
     let mut loads = [0u64; 32];
-    let m = elsewhere(core, cores, periods, requests, weight, &mut away, &mut loads);
-    settle(own, &spans[..n], &costs[..n], &asks[..n], &away[..m], &loads[..m], deadlines[k], start)
+    let m = elsewhere(
+        core,
+        cores,
+        periods,
+        requests,
+        weight,
+        &mut away,
+        &mut loads,
+    );
+    settle(
+        own,
+        &spans[..n],
+        &costs[..n],
+        &asks[..n],
+        &away[..m],
+        &loads[..m],
+        deadlines[k],
+        start,
+    )
 }
 
 // The tasks of a table as columns.
@@ -352,7 +385,14 @@ pub fn judge_task(table: Table, k: u8, start: u64) -> Climbed
     let mut execs = [0u64; 32];
     let mut deadlines = [0u64; 32];
     let mut requests = [0u64; 32];
-    columns(table, &mut cores, &mut periods, &mut execs, &mut deadlines, &mut requests);
+    columns(
+        table,
+        &mut cores,
+        &mut periods,
+        &mut execs,
+        &mut deadlines,
+        &mut requests,
+    );
     let n = table.tasks as usize;
     let i = (k as usize) - 1;
     let costs = board::core_costs(table, cores[i]);
@@ -408,10 +448,7 @@ pub fn none_judged(refusal: Refusal) -> AllJudged
 {
     let miss = missed();
     let answers = [miss; 32];
-    AllJudged {
-        refusal,
-        answers,
-    }
+    AllJudged { refusal, answers }
 }
 
 // Every task of an accepted table, from starts that are not above the deadlines: 14 with the first whose start F lowers, or the answers.
@@ -425,7 +462,14 @@ pub fn judge_tasks(table: Table, starts: [u64; 32]) -> AllJudged
     let mut execs = [0u64; 32];
     let mut deadlines = [0u64; 32];
     let mut requests = [0u64; 32];
-    columns(table, &mut cores, &mut periods, &mut execs, &mut deadlines, &mut requests);
+    columns(
+        table,
+        &mut cores,
+        &mut periods,
+        &mut execs,
+        &mut deadlines,
+        &mut requests,
+    );
     let costs = board::all_costs(table);
     let n = table.tasks as usize;
     let miss = missed();

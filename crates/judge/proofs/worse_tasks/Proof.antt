@@ -44,7 +44,7 @@ loop-again c =
     let a = c .before .before .before .before .before .before .before .args in (
       search needs,
       rest-next (worse (a .t1) (a .t2)) (a .t1 .tasks) (l .i) (l .inv .1) (search needs)
-      (worse-here (a .t1) (a .t2) (l .i) (sym (c .before .worse-task .ensures) ∙ not-false (c .before .worse-task .result) (c .if2 .left))),
+          (worse-here (a .t1) (a .t2) (l .i) (sym (c .before .worse-task .ensures) ∙ not-false (c .before .worse-task .result) (c .if2 .left))),
     )
 
 returns-3 : tie.Need-returns-3 Inv-loop μ-loop

@@ -1,0 +1,88 @@
+-- Starts none of which is refused: fresh ones, and the older bounds where the newer table is the older one worsened. Assumes nothing.
+use mathlib.Core.Path.{_≡_, refl, sym, ap, _∙_}
+use mathlib.Core.Bool.{true}
+use mathlib.Core.List.{List, map}
+use Prim.Native.Nat.{ℕ, zero, suc, _-_, _≤_}
+use native.Mathlib.Omega.{arith}
+use lib.ListN.{length, length-append, length-map, length-replicate, getD, replicate, List·getD-map}
+use Rattle.equation.proofs.Judge.{fresh-allowed}
+use Rattle.rules.specs.declared.Table.{Table}
+use Rattle.rules.specs.declared.Answer.{Answer}
+use Rattle.rules.specs.declared.AllJudged.{AllJudged}
+use Rattle.rules.specs.Idioms.{upTo, entry, filled}
+use Rattle.rules.specs.Judgement.{misses, judge}
+use Rattle.rules.specs.Order.{worsens}
+use Rattle.rules.specs.Refusals.{accepted, isAccepted, checkTable, lateStart, highStart}
+use Rattle.rules.specs.Operations.{answersFrom, noAnswers, fresh, olderBound}
+use Rattle.rules.proofs.Accepted.{sound}
+use Rattle.rules.proofs.First.{first-none}
+use Rattle.rules.proofs.Members.{member-upTo, map-same}
+use Rattle.rules.proofs.Instance.{equation-of, lowest-fits}
+use Rattle.rules.proofs.Starts.{AllowedStart, allowed-passes}
+use Rattle.rules.proofs.Points.{carried-judgeable}
+use Rattle.rules.proofs.Worsened.{worsened}
+use Rattle.board.proofs.Places.{from-length, place-of}
+use Rattle.rounds.specs.Numbered.{firstLate, firstHigh, judgedTasks}
+use Rattle.judge.specs.Carried.{startOf, olderStarts, AllAllowed}
+
+-- ---- where none is refused, all are answered
+
+module _ (t : Table) (starts : List ℕ) (all : AllAllowed t starts) where
+  none-late : firstLate t starts ≡ accepted
+  unfolding firstLate
+  none-late = first-none 13 (λ k. lateStart t k (entry 0 starts k)) (t .tasks) (λ k low high. allowed-passes t k (entry 0 starts k) (all k low high) .0)
+
+  none-high : firstHigh t starts ≡ accepted
+  unfolding firstHigh
+  none-high = first-none 14 (λ k. highStart t k (entry 0 starts k)) (t .tasks) (λ k low high. allowed-passes t k (entry 0 starts k) (all k low high) .1)
+
+  pub allowed-late : isAccepted (firstLate t starts) ≡ true
+  allowed-late = rw none-late
+
+  pub allowed-answers : judgedTasks t starts .answers ≡ answersFrom t (entry 0 starts)
+  unfolding judgedTasks
+  allowed-answers = rw none-high
+
+pub same-answers : (t : Table) (start other : ℕ → ℕ) → ((k : ℕ) → 1 ≤ k → k ≤ t .tasks → start k ≡ other k) → answersFrom t start ≡ answersFrom t other
+unfolding answersFrom
+same-answers t start other same =
+    rw (map-same (λ k. judge t k (start k)) (λ k. judge t k (other k)) (upTo (t .tasks)) (λ k m. let i = member-upTo (t .tasks) m in ap (judge t k) (same k (i .0) (i .1))))
+
+-- ---- fresh starts
+
+zeros : (n i : ℕ) → _≡_ {A = ℕ} (getD (replicate n 0) i 0) 0
+zeros zero i = refl
+zeros (suc n) zero = refl
+zeros (suc n) (suc i) = zeros n i
+
+pub fresh-starts : (k : ℕ) → entry 0 (replicate 32 0) k ≡ fresh k
+fresh-starts k = zeros 32 (k - 1)
+
+module _ (t : Table) (passed : isAccepted (checkTable t) ≡ true) where
+  pub all-fresh : AllAllowed t (replicate 32 0)
+  all-fresh k low high = rw (fresh-starts k) (fresh-allowed (equation-of t passed k low high) (lowest-fits t passed k low high))
+
+  pub answers-long : (start : ℕ → ℕ) → length (answersFrom t start) ≡ 32
+  unfolding answersFrom
+  answers-long start = rw (length-append, length-replicate, length-map, from-length) (omega (arith, sound t passed .tasks-in .high))
+
+  -- the start of task number k
+  pub older-start : (k : ℕ) → 1 ≤ k → k ≤ t .tasks → entry 0 (olderStarts t) k ≡ olderBound t k
+  unfolding olderStarts answersFrom olderBound
+  older-start k low high =
+      List·getD-map startOf (answersFrom t fresh) (k - 1) (misses 0)
+      ∙ ap startOf (place-of (misses 0) (λ k. judge t k 0) 32 (t .tasks) k low high)
+
+-- ---- carried starts
+
+module _ (older newer : Table) (was : isAccepted (checkTable older) ≡ true) (is : isAccepted (checkTable newer) ≡ true)
+    (worse : worsens older newer ≡ true) where
+  as-many : {k : ℕ} → k ≤ newer .tasks → k ≤ older .tasks
+  as-many h = rw (worsened older newer worse .board .tasks) h
+
+  pub all-carried : AllAllowed newer (olderStarts older)
+  all-carried k low high =
+      rw (older-start older was k low (as-many high)) (carried-judgeable older newer was is worse k low (as-many high) .allowed)
+
+  pub carried-answers : answersFrom newer (entry 0 (olderStarts older)) ≡ answersFrom newer (olderBound older)
+  carried-answers = same-answers newer _ _ (λ k low high. older-start older was k low (as-many high))
