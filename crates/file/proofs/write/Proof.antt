@@ -56,7 +56,7 @@ returns-2 c =
     let f = c .before .before .before in
     let a = f .before .before .before .before .before .args in
     rw (c .wrote-nothing2 .ensures, c .before .no-place .ensures)
-    (no-room (a .t) (a .out .now) (passed (f .before)) (rw (encode-is f) at (c .before .before .if2 .taken)))
+    (no-room (a .t) (a .out .now) (passed (f .before)) (omega (arith, encode-is f, c .before .before .if2 .taken)))
 
 put-body-requires : tie.Need-put-body-requires
 put-body-requires c κs =
@@ -80,7 +80,7 @@ returns-3 c =
     let f = p .before .before .before in
     let a = f .before .before .before .before .before .args in
     let e : f .file-length .result - 12 ≡ length (body (a .t)) = omega (arith, body-is f) in
-    let h : length (encode (a .t)) ≤ length (a .out .now) = rw (encode-is f) at (p .before .before .if2 .left) in
+    let h : length (encode (a .t)) ≤ length (a .out .now) = omega (arith, encode-is f, p .before .before .if2 .left) in
     rw (c .no-place2 .ensures, r .put-trailer .ensures, e, p .put-body .ensures, encode-is f, file-stores (a .t) (a .out .now) h)
     (room (a .t) (a .out .now) (passed (f .before)) h)
 
