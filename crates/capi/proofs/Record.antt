@@ -2,9 +2,11 @@
 use mathlib.Core.Path.{_≡_}
 use mathlib.Core.Bool.{Bool, true, false}
 use mathlib.Core.List.{List}
-use Prim.Native.Nat.{ℕ, _+_, _*_, _-_, _≤_}
+use Prim.Native.Nat.{ℕ, _+_, _*_, _-_, _≤_, _<_}
+use native.Mathlib.Omega.{arith}
+use native.Mathlib.Decide.{decLe}
 use lib.ListN.{length}
-use borrow.Author.Tests.{ltb-false, not-false, eq-eqb, ne-eqb}
+use borrow.Author.Tests.{lt-ltb, not-false, eq-eqb, ne-eqb}
 use Rattle.rules.specs.Refusals.{isAccepted, _orElse_, given, checkTable, askedFault}
 use Rattle.rules.specs.File.{setsAt, recordsAt, recordSize, recordAt, coresIn, tasksIn, checkWhole, decode}
 use Rattle.rules.specs.Operations.{checkFile, checkView}
@@ -13,15 +15,16 @@ use Rattle.rules.proofs.Chain.{both-accepted, no-fault}
 use Rattle.rules.proofs.Tests.{inside}
 use Rattle.capi.specs.Record.{recordPlace}
 
-first-of-four : (a b c d : Bool) → isAccepted (given 1 0 a orElse given 2 0 b orElse given 3 0 c orElse given 4 0 d) ≡ true → a ≡ false
-first-of-four a b c d e =
-    let three = both-accepted (given 1 0 a orElse given 2 0 b orElse given 3 0 c) (given 4 0 d) e .0 in
-    let two = both-accepted (given 1 0 a orElse given 2 0 b) (given 3 0 c) three .0 in
-    no-fault 0 0 a (both-accepted (given 1 0 a) (given 2 0 b) two .0)
+too-short : (s : List ℕ) → length s < 46 → isAccepted (checkWhole s) ≡ false
+unfolding checkWhole
+too-short s h = rw (lt-ltb _ _ h)
 
 whole-long : (s : List ℕ) → isAccepted (checkWhole s) ≡ true → 46 ≤ length s
-unfolding checkWhole
-whole-long s e = ltb-false (length s) 46 (first-of-four _ _ _ _ e)
+whole-long s e = go (decLe 46 (length s))
+  where
+    go : Dec (46 ≤ length s) → 46 ≤ length s
+    go (yes h) = h
+    go (no h) = let z : _≡_ {A = Bool} true false = cc (too-short s (omega (arith, h))) in let y : _≡_ {A = ℕ} 0 1 = cc in absurd (omega arith)
 
 module _ (s : List ℕ) (k : ℕ) where
   pub no-record : (checkView s k .number ≡ 0 → ⊥) → recordPlace s k ≡ 0
