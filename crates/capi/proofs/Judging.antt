@@ -14,7 +14,8 @@ use Rattle.rules.proofs.Accepted.{sound}
 use Rattle.rules.proofs.Chain.{both-accepted, first-refuses, second-decides}
 use Rattle.capi.specs.Codes.{codeOf}
 use Rattle.capi.specs.Columns.{checkJudging, answersOf, columnAfter, Columns, JudgedFile}
-use Rattle.capi.proofs.Starts.{take-filled, lent-starts}
+use Rattle.capi.proofs.Filled.{take-filled}
+use Rattle.capi.proofs.Starts.{lent-starts}
 
 -- ---- by what a refusal is decided, and which answers there are
 
@@ -32,7 +33,8 @@ module _ (s starts : List ℕ) where
   unfolding judgeAll answersFrom answersOf decode
   answers-all e = rw e (take-filled 32 (misses 0) (λ k. judge (decode s) k (entry 0 starts k)) (tasksIn s))
 
--- what is left of each output, and what is returned
+-- ---- the outputs afterwards, and what is returned
+
 module _ (s starts : List ℕ) {bounds rounds by : List ℕ} where
   refused-leaves : isAccepted (checkJudging s starts) ≡ false → JudgedFile s starts bounds rounds by (codeOf (checkJudging s starts)) bounds rounds by
   unfolding columnAfter

@@ -54,9 +54,8 @@ module _ {bounds rounds by : List ℕ} where
 
   pub columns-lengths : {answers : List Answer} {bounds′ rounds′ by′ : List ℕ} → Columns answers bounds rounds by bounds′ rounds′ by′
       → (length bounds′ ≡ length bounds) × (length rounds′ ≡ length rounds) × (length by′ ≡ length by)
-  columns-lengths {answers} so =
-      (
-        rw (so .bounds-are) (laid-length (map boundIn answers) bounds),
-        rw (so .rounds-are) (laid-length (map roundsIn answers) rounds),
-        rw (so .by-are) (laid-length (map byIn answers) by),
-      )
+  columns-lengths {answers} so = (
+    rw (so .bounds-are) (laid-length (map boundIn answers) bounds),
+    rw (so .rounds-are) (laid-length (map roundsIn answers) rounds),
+    rw (so .by-are) (laid-length (map byIn answers) by),
+  )

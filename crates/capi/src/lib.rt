@@ -65,7 +65,13 @@ fn store_byte(out: &mut [u8], i: usize, x: u8)
 }
 
 // The first n answers, each output as far as it reaches.
-fn store_answers(answers: [Answer; 32], n: usize, bounds: &mut [u64], rounds: &mut [u64], by: &mut [u8])
+fn store_answers(
+    answers: [Answer; 32],
+    n: usize,
+    bounds: &mut [u64],
+    rounds: &mut [u64],
+    by: &mut [u8],
+)
     requires { ⌜ n ≤ 32 ⌝ }
     ensures { λ _. ⌜ Columns (take n answers) (now (bounds .entry)) (now (rounds .entry)) (now (by .entry)) (now (bounds .exit)) (now (rounds .exit)) (now (by .exit)) ⌝ }
 {

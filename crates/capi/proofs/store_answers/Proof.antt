@@ -27,8 +27,7 @@ loop-again c =
     let rounds = by .before .before .before .before .before in
     let bounds = rounds .before .before .before .before in
     let s = bounds .before .before .before .before .before in
-    let stored = columns-next (s .before .before .before .before .args .t1) (s .loop .i) (omega (arith, all-32 (s .before .before .before .before))) (s .loop .inv .1) in
-    (
+    let stored = columns-next (s .before .before .before .before .args .t1) (s .loop .i) (omega (arith, all-32 (s .before .before .before .before))) (s .loop .inv .1) in (
       search needs,
       rw (bounds .store .ensures, bounds .before .bound-of .ensures, rounds .store2 .ensures, by .store-byte .ensures, by .before .by-number .ensures) stored,
     )

@@ -1,5 +1,5 @@
--- Where 0 is returned, it says one thing: nothing is refused, there is no such record, the listing does not fit. Assumes nothing.
-use mathlib.Core.Path.{_≡_, refl}
+-- What the promises say: any two results that one allows coincide, and a 0 says one thing. Assumes nothing.
+use mathlib.Core.Path.{_≡_, refl, sym, _∙_}
 use mathlib.Core.Bool.{Bool, true, false, cond}
 use mathlib.Core.List.{List}
 use Prim.Native.Nat.{ℕ, _+_, _*_, _≤_, zero-le, suc-le-suc}
@@ -12,8 +12,16 @@ use Rattle.rules.specs.Refusals.{isAccepted}
 use Rattle.rules.specs.Listing.{tableLines, listing}
 use Rattle.rules.specs.Operations.{reading, checkView}
 use Rattle.capi.specs.Codes.{codeOf}
+use Rattle.capi.specs.Columns.{JudgedFile}
 use Rattle.capi.specs.Record.{recordPlace}
 use Rattle.capi.proofs.Record.{record-there}
+
+-- the other promises are equations with the result
+pub judged-once : {s starts bounds rounds by bounds₁ rounds₁ by₁ bounds₂ rounds₂ by₂ : List ℕ} {r₁ r₂ : ℕ}
+    → JudgedFile s starts bounds rounds by r₁ bounds₁ rounds₁ by₁ → JudgedFile s starts bounds rounds by r₂ bounds₂ rounds₂ by₂
+    → (r₁ ≡ r₂) × (bounds₁ ≡ bounds₂) × (rounds₁ ≡ rounds₂) × (by₁ ≡ by₂)
+judged-once p q =
+    (p .returned ∙ sym (q .returned), p .bounds-are ∙ sym (q .bounds-are), p .rounds-are ∙ sym (q .rounds-are), p .by-are ∙ sym (q .by-are))
 
 -- "Returns 0 where the file is accepted, else the refusal"
 pub zero-accepted : (r : Refusal) → codeOf r ≡ 0 → isAccepted r ≡ true
