@@ -1,0 +1,50 @@
+-- Refusals 1 to 4 one at a time: what each of the tests, in their order, makes of a file. Assumes nothing.
+use mathlib.Core.Path.{_≡_, refl}
+use mathlib.Core.List.{List}
+use Prim.Native.Nat.{ℕ, _+_, _*_, _-_, _<_, _≤_}
+use native.Mathlib.Omega.{arith}
+use lib.ListN.{length, take}
+use borrow.Author.Tests.{lt-ltb, le-ltb, eq-eqb, ne-eqb}
+use Rattle.rules.specs.Idioms.{number, part}
+use Rattle.rules.specs.Refusals.{accepted, refused}
+use Rattle.rules.specs.File.{setsAt, recordsAt, recordSize, recordAt, fileLength, coresIn, tasksIn, formIn, sumOf, runningSum, checkWhole}
+use Rattle.file.specs.Sums.{checkTrailer}
+
+pub length-is : (form cores tasks : ℕ) → fileLength form cores tasks ≡ 46 + 2 * cores + 29 * tasks
+unfolding fileLength recordsAt setsAt recordSize
+length-is form cores tasks = omega arith
+
+pub record-at-is : (form cores k : ℕ) → recordAt form cores k ≡ 34 + 2 * cores + 29 * (k - 1)
+unfolding recordAt recordsAt setsAt recordSize
+record-at-is form cores k = refl
+
+module _ (s : List ℕ) where
+  pub too-short : length s < 46 → checkWhole s ≡ refused 1 0
+  unfolding checkWhole
+  too-short h = rw (lt-ltb _ _ h)
+
+  pub wrong-length : 46 ≤ length s → (length s ≡ fileLength (formIn s) (coresIn s) (tasksIn s) → ⊥) → checkWhole s ≡ refused 2 0
+  unfolding checkWhole
+  wrong-length h n = rw (le-ltb _ _ h, ne-eqb _ _ n)
+
+  pub right-length : 46 ≤ length s → length s ≡ fileLength (formIn s) (coresIn s) (tasksIn s) → checkWhole s ≡ checkTrailer s
+  unfolding checkWhole checkTrailer
+  right-length h e = rw (le-ltb _ _ h, eq-eqb _ _ e)
+
+  pub wrong-count : (number (part s (length s - 12) 4) ≡ length s - 12 → ⊥) → checkTrailer s ≡ refused 3 0
+  unfolding checkTrailer
+  wrong-count n = rw (ne-eqb _ _ n)
+
+  module _ (counted : number (part s (length s - 12) 4) ≡ length s - 12) where
+    pub wrong-sum : (number (part s (length s - 8) 4) ≡ sumOf (take (length s - 12) s) → ⊥) → checkTrailer s ≡ refused 4 0
+    unfolding checkTrailer
+    wrong-sum n = rw (eq-eqb _ _ counted, ne-eqb _ _ n)
+
+    module _ (summed : number (part s (length s - 8) 4) ≡ sumOf (take (length s - 12) s)) where
+      pub wrong-running : (number (part s (length s - 4) 4) ≡ runningSum (take (length s - 12) s) → ⊥) → checkTrailer s ≡ refused 4 0
+      unfolding checkTrailer
+      wrong-running n = rw (eq-eqb _ _ counted, eq-eqb _ _ summed, ne-eqb _ _ n)
+
+      pub trailer-right : number (part s (length s - 4) 4) ≡ runningSum (take (length s - 12) s) → checkTrailer s ≡ accepted
+      unfolding checkTrailer
+      trailer-right e = rw (eq-eqb _ _ counted, eq-eqb _ _ summed, eq-eqb _ _ e)

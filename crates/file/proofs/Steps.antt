@@ -1,0 +1,33 @@
+-- One figure more and one task more of a file, as the loops that read them store them. Assumes nothing.
+use mathlib.Core.Path.{_≡_}
+use mathlib.Core.List.{List}
+use Prim.Native.Nat.{ℕ, _+_, _*_, _-_, _<_}
+use native.Mathlib.Nat.{add-sub-cancel-left}
+use lib.ListN.{length, set, take, drop}
+use lib.Seq.{sets}
+use Rattle.rules.specs.declared.Task.{Task}
+use Rattle.rules.specs.Idioms.{number, part, filled}
+use Rattle.rules.specs.Tasks.{noTask}
+use Rattle.rules.specs.File.{recordSize, recordAt, recordIn, recordTask, coresIn, formIn}
+use Rattle.rules.proofs.Fill.{fill-step}
+use Rattle.file.specs.Places.{figuresIn, tasksTo}
+use Rattle.file.proofs.Runs.{map-below-next, length-map-below, map-upTo-next, length-map-upTo, sets-next}
+
+module _ (s : List ℕ) where
+  pub figures-length : (at n : ℕ) → length (figuresIn s at n) ≡ n
+  figures-length at n = length-map-below (λ k. number (part s (at + 2 * k) 2)) n
+
+  pub figure-next : (at i : ℕ) (l : List ℕ) → set (sets l 0 (figuresIn s at i)) i (number (part s (at + 2 * i) 2)) ≡ sets l 0 (figuresIn s at (i + 1))
+  figure-next at i l =
+      let f : ℕ → ℕ = λ k. number (part s (at + 2 * k) 2) in
+      rw (map-below-next f i) (sets-next l (figuresIn s at i) i (f i) (figures-length at i))
+
+  -- the part of 29 bytes where record k starts, as code takes it
+  pub part-record : (a k : ℕ) → a ≡ recordAt (formIn s) (coresIn s) k → take (a + 29 - a) (drop a s) ≡ recordIn s k
+  unfolding recordIn recordSize
+  part-record a k e = rw (add-sub-cancel-left, e)
+
+  pub task-next : (i : ℕ) → i < 32 → set (filled 32 noTask (tasksTo s i)) i (recordTask (recordIn s (i + 1))) ≡ filled 32 noTask (tasksTo s (i + 1))
+  task-next i h =
+      let f : ℕ → Task = λ k. recordTask (recordIn s k) in
+      rw (map-upTo-next f i) (fill-step 32 noTask (tasksTo s i) i (f (i + 1)) (length-map-upTo f i) h)

@@ -1,0 +1,38 @@
+-- The tasks of a file, place by place. Assumes nothing.
+use Prim.Native.Nat.{_+_, _*_, _-_, _≤_}
+use mathlib.Core.Path.{_≡_, _∙_, sym}
+use native.Mathlib.Omega.{arith}
+use borrow.Author.Needs.{needs}
+use Rattle.rules.specs.Idioms.{from, filled}
+use Rattle.rules.specs.Tasks.{noTask}
+use Rattle.file.specs.Places.{tasksTo}
+use Rattle.file.proofs.Steps.{part-record, task-next}
+use Rattle.file.proofs.tasks.Statement.{statement}
+use Rattle.file.proofs.tasks.Tie as tie
+
+abbrev Inv-loop : tie.InvT-loop
+Inv-loop file n all₀ i₀ all i = (i ≤ n) × (all ≡ filled 32 noTask (tasksTo file i))
+
+abbrev μ-loop : tie.MeasureT-loop
+μ-loop file n all₀ i₀ all i = n - i
+
+loop-holds : tie.Need-loop-holds Inv-loop μ-loop
+unfolding from
+loop-holds c = (search needs, rw (c .no-task .ensures))
+
+loop-again : tie.Need-loop-again Inv-loop μ-loop
+loop-again c =
+    let l = c .before .before .before .before .before .before .loop in
+    let s = c .before .before .before .before .before .before .before .before .before .args .file .now in
+    let part = part-record s (c .before .before .record-at .result) (l .i + 1) (c .before .before .record-at .ensures .0) in
+    (search needs, rw (l .inv .1, c .task-in .ensures, part) (task-next s (l .i) (omega arith)))
+
+returns : tie.Need-returns Inv-loop μ-loop
+returns c =
+    let e : c .before .loop .i ≡ c .before .before .before .before .args .n = omega arith in
+    rw e at (c .before .loop .inv .1)
+
+pub tasks-spec : {M : Type 1} → statement M
+tasks-spec =
+    tie.close
+    (tie.spec Inv-loop μ-loop (λ c κs. search needs) loop-holds (λ c. search needs) (λ c. search needs) (λ c. search needs) (λ c κs. search needs) (λ c. search needs) (λ c. search needs) (λ c. search needs) (λ c. search needs) (λ c κs. search needs) (λ c. search needs) (λ c. search needs) (λ c. search needs) (λ c. search needs) loop-again returns)

@@ -1,0 +1,2 @@
+-- What the steps of the check stand for.
+pub mod Faults

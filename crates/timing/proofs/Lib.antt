@@ -1,0 +1,6 @@
+pub mod Worked
+pub mod Bounds
+pub mod Walk
+pub mod Ranges
+pub mod Relations
+pub mod Links
