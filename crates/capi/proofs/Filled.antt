@@ -1,13 +1,14 @@
 -- A list's members in n places, with the default in the others. Assumes nothing.
-use mathlib.Core.Path.{_≡_, refl, ap, _∙_}
+use mathlib.Core.Path.{_≡_, refl, _∙_}
 use mathlib.Core.List.{List, [], _∷_, _++_, map}
 use Prim.Native.Nat.{ℕ, zero, suc, _+_, _-_, _≤_, _<_}
 use native.Mathlib.Omega.{arith}
 use native.Mathlib.Numerals.{add-one}
 use lib.ListN.{length, length-map, take, getD, set, replicate}
 use lib.Seq.{length-take-le, take-at, take-suc, getD-take}
-use Rattle.rules.specs.Idioms.{entry, filled, from, upTo}
+use Rattle.rules.specs.Idioms.{entry, filled, upTo}
 use Rattle.rules.proofs.Fill.{fill-step}
+use Rattle.file.proofs.Runs.{length-from}
 
 -- one member more
 pub filled-next : {A : Type 0} (n : ℕ) (d : A) (l : List A) (i : ℕ) → i < n → i < length l → set (filled n d (take i l)) i (getD l i d) ≡ filled n d (take (i + 1) l)
@@ -25,11 +26,6 @@ pub filled-entry : {A : Type 0} (n : ℕ) (d : A) (l : List A) (k : ℕ) → 1 �
 filled-entry n d l k low high =
     pad-default (take n l) (n - length (take n l)) (k - 1) d ∙ getD-take n l (k - 1) d (omega arith)
 
-from-length : (a n : ℕ) → length (from a n) ≡ n
-unfolding from
-from-length a zero = refl
-from-length a (suc n) = ap suc (from-length (a + 1) n)
-
 -- what is filled in for the numbers 1 to m are the first m places
 pub take-filled : {A : Type 0} (n : ℕ) (d : A) (f : ℕ → A) (m : ℕ) → take m (filled n d (map f (upTo m))) ≡ map f (upTo m)
-take-filled n d f m = take-at (map f (upTo m)) _ m (length-map (upTo m) f ∙ from-length 1 m)
+take-filled n d f m = take-at (map f (upTo m)) _ m (length-map (upTo m) f ∙ length-from 1 m)

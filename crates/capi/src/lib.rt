@@ -1,5 +1,4 @@
 // The C interface: include/ryeobadum.h. A `&[u8]` is a pointer and then a length.
-mod file;
 mod judge;
 
 use rules::Answer;

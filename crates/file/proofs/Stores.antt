@@ -91,8 +91,8 @@ module _ (t : Table) (figures : length (t .timing) ≡ 15) (cores : t .cores ≤
   -- what stands before the trailer, each part stored after the one before
   pub body-stores : (out : List ℕ)
       → sets (sets (sets (sets out 0 (counts t)) 4 (joined (map (bytes 2) (take 15 (t .timing))))) 34 (joined (map (bytes 2) (take (t .cores) (t .sets)))))
-          (34 + 2 * t .cores)
-          (joined (map (recordBytes (t .fourth)) (tasksOf t)))
+      (34 + 2 * t .cores)
+      (joined (map (recordBytes (t .fourth)) (tasksOf t)))
       ≡ sets out 0 (body t)
   unfolding body timing-bytes sets-bytes
   body-stores out =
@@ -108,6 +108,6 @@ module _ (t : Table) (figures : length (t .timing) ≡ 15) (cores : t .cores ≤
   unfolding body timing-bytes sets-bytes
   body-length tasks =
       let records : length (joined (map (recordBytes (t .fourth)) (tasksOf t))) ≡ 29 * t .tasks =
-        joined-length (recordBytes (t .fourth)) 29 (record-length (t .fourth)) (tasksOf t) ∙ rw (length-take-le (t .tasks) (t .task) tasks)
+      joined-length (recordBytes (t .fourth)) 29 (record-length (t .fourth)) (tasksOf t) ∙ rw (length-take-le (t .tasks) (t .task) tasks)
       in
       rw length-append (omega (arith, records, front-length))

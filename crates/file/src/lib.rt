@@ -13,7 +13,6 @@ ghost use Rattle.rules.specs.Operations.{reading, checkView, viewing};
 ghost use Rattle.file.specs.Sums.{sumsOf, checkTrailer};
 ghost use Rattle.file.specs.Places.{counts, figuresIn, tasksTo};
 ghost use Rattle.file.specs.Answers.{readNothing, wroteNothing, Wrote};
-
 use rules::Picos;
 use rules::Read;
 use rules::Refusal;

@@ -2,8 +2,10 @@
 use mathlib.Core.Path.{_≡_, _∙_, sym}
 use native.Mathlib.Omega.{arith}
 use borrow.Author.Needs.{needs}
+use borrow.Author.Tests.{eq-eqb}
 use Rattle.rules.specs.Operations.{checkView}
-use Rattle.capi.proofs.Record.{no-record, record-there, task-there, file-long}
+use Rattle.file.proofs.Reading.{viewed-length, viewed-task}
+use Rattle.capi.proofs.Record.{no-record, record-there}
 use Rattle.capi.proofs.ryb_record.Statement.{statement}
 use Rattle.capi.proofs.ryb_record.Tie as tie
 
@@ -14,10 +16,10 @@ returns : tie.Need-returns
 returns c = sym (no-record _ _ (rw (c .before .before .view-refusal .ensures) at (c .if1 .taken)))
 
 there : tie.Need-shared-slice-read-record-at
-there c = omega (arith, file-long _ _ (passes (c .before)))
+there c = omega (arith, viewed-length _ _ (eq-eqb _ _ (passes (c .before))))
 
 asks : tie.Need-record-at-requires
-asks c κs = task-there _ _ (passes (c .before)) .low
+asks c κs = viewed-task _ _ (eq-eqb _ _ (passes (c .before))) .low
 
 returns-2 : tie.Need-returns-2
 returns-2 c = c .record-at .ensures ∙ sym (record-there _ _ (passes (c .before .before)))

@@ -35,7 +35,7 @@ loop-again c =
       search needs,
       search needs,
       rw (p .put-task .ensures, at, l .inv .2)
-      (store-next (recordBytes (t .fourth)) 29 (record-length (t .fourth)) (a .out .now) (34 + 2 * t .cores) (t .task) (l .i) noTask (omega (arith, all-32 start))),
+          (store-next (recordBytes (t .fourth)) 29 (record-length (t .fourth)) (a .out .now) (34 + 2 * t .cores) (t .task) (l .i) noTask (omega (arith, all-32 start))),
     )
 
 returns : tie.Need-returns Inv-loop μ-loop
