@@ -1,0 +1,46 @@
+-- `far_sides` fills a place a core. Assumes nothing.
+use mathlib.Core.Path.{_≡_, refl}
+use mathlib.Core.Bool.{false}
+use mathlib.Core.List.{map}
+use Prim.Native.Nat.{_-_, _≤_}
+use borrow.Author.Needs.{needs}
+use native.Mathlib.Omega.{arith}
+use Rattle.rules.specs.Idioms.{from, upTo, filled}
+use Rattle.board.specs.Masks.{mask, onSide, farMasks}
+use Rattle.board.proofs.Places.{place-next}
+use Rattle.board.proofs.far_sides.Statement.{statement}
+use Rattle.board.proofs.far_sides.Tie as tie
+
+abbrev Inv-loop : tie.InvT-loop
+Inv-loop cores sets far₀ p₀ far p = (p ≤ cores) × (far ≡ filled 8 0 (map (λ q. mask (onSide false sets q) cores) (upTo p)))
+
+abbrev μ-loop : tie.MeasureT-loop
+μ-loop cores sets far₀ p₀ far p = cores - p
+
+loop-holds : tie.Need-loop-holds Inv-loop μ-loop
+unfolding from
+loop-holds c = (search needs, refl)
+
+loop-again : tie.Need-loop-again Inv-loop μ-loop
+loop-again c =
+    let l = c .before .before .loop in
+    (search needs, rw (l .inv .1, c .side .ensures) (place-next 0 _ 8 (l .p) (omega arith)))
+
+returns : tie.Need-returns Inv-loop μ-loop
+unfolding farMasks
+returns c = let e : c .before .loop .p ≡ c .before .before .args .cores = omega arith in rw (c .before .loop .inv .1, e)
+
+pub far-sides-spec : {M : Type 1} → statement M
+far-sides-spec =
+    tie.close
+    (tie.spec
+    Inv-loop
+    μ-loop
+    loop-holds
+    (λ c. search needs)
+    (λ c κs. search needs)
+    (λ c. search needs)
+    (λ c. search needs)
+    (λ c. search needs)
+    loop-again
+    returns)

@@ -1,0 +1,171 @@
+// Near and far from the sets of partitions, and what a request of each core costs: the rules of "Delay figures" by cores, as numbers.
+ghost use mathlib.Core.Path.{_≡_};
+ghost use Prim.Native.Nat.{_-_, _*_, _/_, _%_, _^_, _≤_};
+ghost use mathlib.Core.List.{map};
+ghost use lib.Count.{ones};
+ghost use Rattle.rules.specs.declared.Table.{Table};
+ghost use Rattle.rules.specs.Idioms.{upTo, filled};
+ghost use Rattle.rules.specs.Cores.{share};
+ghost use Rattle.rules.specs.Sound.{Sound};
+ghost use Rattle.rules.proofs.Weights.{weight};
+ghost use Rattle.timing.specs.Figures.{FiguresBounded};
+ghost use Rattle.board.specs.Masks.{asBit, mask, onSide, farMasks};
+ghost use Rattle.board.specs.Costs.{costsOf, noCosts, rowPart, Shows};
+use rules::Table;
+use timing::Figures;
+
+// For one core: RD, and what one request of each core costs one of its jobs.
+pub struct CoreCosts {
+    pub request: u64,
+    pub weight: [u64; 8],
+}
+
+// The two sets have a partition in common.
+pub fn shares(a: u16, b: u16) -> bool
+    ensures { λ r. ⌜ r ≡ share a b ⌝ }
+{
+    a & b != 0
+}
+
+// Whether core q is on the near side of p, or on the far side, as a bit.
+fn on_side(sets: &[u16; 8], p: usize, q: usize, near: bool) -> u8
+    requires { ⌜ (1 ≤ p) × (p ≤ 8) × (1 ≤ q) × (q ≤ 8) ⌝ }
+    ensures { λ r. ⌜ (r ≡ asBit (onSide near (now (sets .entry)) p q)) × (r ≤ 1) ⌝ }
+{
+    if q == p {
+        return 0;
+    }
+    if shares(sets[p - 1], sets[q - 1]) == near {
+        1
+    } else {
+        0
+    }
+}
+
+// The cores on the near side of p, or on the far side, as bits.
+fn side(cores: usize, sets: &[u16; 8], p: usize, near: bool) -> u8
+    requires { ⌜ (1 ≤ p) × (p ≤ cores) × (cores ≤ 8) ⌝ }
+    ensures { λ r. ⌜ r ≡ mask (onSide near (now (sets .entry)) p) cores ⌝ }
+{
+    let mut bits: u8 = 0;
+    let mut q = cores;
+    while 0 < q {
+        bits = bits * 2 + on_side(sets, p, q, near);
+        q -= 1;
+    }
+    bits
+}
+
+// For each core the cores far from it.
+fn far_sides(cores: usize, sets: &[u16; 8]) -> [u8; 8]
+    requires { ⌜ cores ≤ 8 ⌝ }
+    ensures { λ r. ⌜ r ≡ farMasks cores (now (sets .entry)) ⌝ }
+{
+    let mut far = [0u8; 8];
+    let mut p: usize = 0;
+    while p < cores {
+        far[p] = side(cores, sets, p + 1, false);
+        p += 1;
+    }
+    far
+}
+
+// How many cores the bits stand for.
+fn count(bits: u8) -> u64
+    ensures { λ r. ⌜ (r ≡ ones bits) × (r ≤ 8) ⌝ }
+{
+    u8::count_ones(bits) as u64
+}
+
+// The bit of core q.
+fn bit(bits: u8, q: usize) -> u64
+    requires { ⌜ (1 ≤ q) × (q ≤ 8) ⌝ }
+    ensures { λ r. ⌜ (r ≡ bits / 2 ^ (q - 1) % 2) × (r ≤ 1) ⌝ }
+{
+    ((bits >> (q - 1)) % 2) as u64
+}
+
+// What one request of core q costs a job of core p: a crossing if q is far, a conflict if it is near, and a crossing for each core near p
+// that q is far from.
+fn weigh(near: u8, far: &[u8; 8], p: usize, q: usize, f: Figures) -> u64
+    requires { ⌜ (1 ≤ p) × (p ≤ 8) × (1 ≤ q) × (q ≤ 8) ⌝ }
+    requires { ⌜ FiguresBounded f ⌝ }
+    ensures { λ r. ⌜ r ≤ 3 * 10 ^ 7 ⌝ }
+    ensures { λ r. ⌜ ((t : Table) → p ≤ t .cores → q ≤ t .cores → Shows p near (now (far .entry)) f t → r ≡ weight t p q) ⌝ }
+{
+    let crossings = bit(far[p - 1], q) + count(near & far[q - 1]);
+    let conflicts = bit(near, q);
+    crossings * f.crossing.0 + conflicts * f.conflict.0
+}
+
+// What RD has beside one request of each core: nothing if no core is near.
+fn row_part(near: u8, far: &[u8; 8], p: usize, f: Figures) -> u64
+    requires { ⌜ (1 ≤ p) × (p ≤ 8) ⌝ }
+    requires { ⌜ FiguresBounded f ⌝ }
+    ensures { λ r. ⌜ r ≤ 7 * 10 ^ 9 ⌝ }
+    ensures { λ r. ⌜ ((t : Table) → p ≤ t .cores → Shows p near (now (far .entry)) f t → r ≡ rowPart t p) ⌝ }
+{
+    if near == 0 {
+        return 0;
+    }
+    let others = count(far[p - 1]);
+    f.run.0 + f.window * f.readwrite.0 * others + f.reopen.0
+}
+
+// Both costs of core p. RD is what one request of each core costs a job, and the row's part.
+fn costs(cores: usize, near: u8, far: &[u8; 8], p: usize, f: Figures) -> CoreCosts
+    requires { ⌜ (1 ≤ p) × (p ≤ cores) × (cores ≤ 8) ⌝ }
+    requires { ⌜ FiguresBounded f ⌝ }
+    ensures { λ r. ⌜ ((t : Table) → t .cores ≡ cores → Shows p near (now (far .entry)) f t → r ≡ costsOf t p) ⌝ }
+{
+    let mut request = row_part(near, far, p, f);
+    let mut weight = [0u64; 8];
+    let mut q: usize = 0;
+    while q < cores {
+        let each = weigh(near, far, p, q + 1, f);
+        weight[q] = each;
+        request += each;
+        q += 1;
+    }
+    CoreCosts { request, weight }
+}
+
+// The costs of one core.
+pub fn core_costs(t: Table, p: u8) -> CoreCosts
+    requires { ⌜ Sound t ⌝ }
+    requires { ⌜ (1 ≤ p) × (p ≤ t .cores) ⌝ }
+    ensures { λ r. ⌜ r ≡ costsOf t p ⌝ }
+{
+    let cores = t.cores as usize;
+    let own = p as usize;
+    let sets = t.sets;
+    let row = t.timing;
+    let figures = timing::figures_of(row);
+    let far = far_sides(cores, &sets);
+    let near = side(cores, &sets, own, true);
+    costs(cores, near, &far, own, figures)
+}
+
+// The costs of every core.
+pub fn all_costs(t: Table) -> [CoreCosts; 8]
+    requires { ⌜ Sound t ⌝ }
+    ensures { λ r. ⌜ r ≡ filled 8 noCosts (map (costsOf t) (upTo (t .cores))) ⌝ }
+{
+    let cores = t.cores as usize;
+    let sets = t.sets;
+    let row = t.timing;
+    let figures = timing::figures_of(row);
+    let far = far_sides(cores, &sets);
+    let none = CoreCosts {
+        request: 0,
+        weight: [0u64; 8],
+    };
+    let mut all = [none; 8];
+    let mut p: usize = 0;
+    while p < cores {
+        let near = side(cores, &sets, p + 1, true);
+        all[p] = costs(cores, near, &far, p + 1, figures);
+        p += 1;
+    }
+    all
+}

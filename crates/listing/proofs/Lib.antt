@@ -1,0 +1,9 @@
+-- Laws that belong to no one function.
+--     Put        texts one after the other, and at the start of a lent buffer
+--     Decimal    the digits of a number
+--     TaskLines  the lines of the tasks and of a table
+--     Missed     the first task that misses
+pub mod Put
+pub mod Decimal
+pub mod TaskLines
+pub mod Missed

@@ -1,0 +1,33 @@
+-- `put_delay` meets its contract. Assumes nothing.
+use native.Mathlib.Omega.{arith}
+use borrow.Author.Needs.{needs}
+use Rattle.rules.specs.Listing.{delayWord}
+use Rattle.listing.proofs.rows.put_delay.Statement.{statement}
+use Rattle.listing.proofs.rows.put_delay.Tie as tie
+
+returns : tie.Need-returns
+unfolding delayWord
+returns c =
+    let put = c .before .before .put-word .ensures in
+    (rw (c .before .before .before .before .before .enum-told .given .1) put, omega (arith, put .ends))
+
+returns-2 : tie.Need-returns-2
+unfolding delayWord
+returns-2 c =
+    let put = c .before .before .put-word2 .ensures in
+    (rw (c .before .before .before .before .before .enum-told2 .given .1) put, omega (arith, put .ends))
+
+pub put-delay-spec : {M : Type 1} → statement M
+put-delay-spec =
+    tie.close
+    (tie.spec
+    (λ c. search needs)
+    (λ c. search needs)
+    (λ c κs. search needs)
+    (λ c. search needs)
+    (λ c. search needs)
+    (λ c κs. search needs)
+    (λ c. search needs)
+    returns
+    (λ c. search needs)
+    returns-2)

@@ -1,0 +1,56 @@
+// The listing of document 01: its bytes for a table with its answers, and for a table file, into a lent buffer.
+mod last;
+mod rows;
+pub mod text;
+
+use last::put_last;
+use rows::put_rows;
+use rules::Answer;
+use rules::Table;
+use text::give;
+use text::put_number;
+use text::put_word;
+ghost use Prim.Native.Nat.{_≤_};
+ghost use lib.ListN.{length};
+ghost use Rattle.rules.specs.Listing.{tableLines};
+ghost use Rattle.listing.specs.Put.{Put, Given};
+ghost use Rattle.listing.specs.Lines.{tableText, refusedLine};
+
+// The lines of a table, which take at most 34 bytes, 100 a task and 32.
+fn put_table(buf: &mut [u8], t: Table, answers: [Answer; 32]) -> usize
+    requires { ⌜ t .tasks ≤ 32 ⌝ }
+    requires { ⌜ 3266 ≤ length (now buf) ⌝ }
+    ensures { λ r. ⌜ Put (now (buf .entry)) 0 (tableLines t answers) r (now (buf .exit)) ⌝ }
+    ensures { λ r. ⌜ r ≤ 3266 ⌝ }
+{
+    let tasks = t.tasks as usize;
+    let head = put_word(buf, 0, b"task core verdict bound by rounds\n");
+    let end = put_rows(buf, head, t, answers);
+    put_last(buf, end, tasks, answers)
+}
+
+// The lines of a table with its answers, whole, and their length; where they do not fit, nothing, and 0.
+// A table whose count is above 32 has no lines. A buffer of 3266 bytes has room for any.
+pub fn lines(t: Table, answers: [Answer; 32], out: &mut [u8]) -> usize
+    ensures { λ r. ⌜ Given (tableText t answers) (now (out .entry)) r (now (out .exit)) ⌝ }
+    ensures { λ _. ⌜ length (tableText t answers) ≤ 3266 ⌝ }
+{
+    if t.tasks > 32 {
+        return 0;
+    }
+    let mut made = [0u8; 3266];
+    let n = put_table(&mut made, t, answers);
+    give(&made[..n], out)
+}
+
+// "A refusal is the only line": likewise.
+pub fn refused(number: u8, out: &mut [u8]) -> usize
+    ensures { λ r. ⌜ Given (refusedLine number) (now (out .entry)) r (now (out .exit)) ⌝ }
+    ensures { λ _. ⌜ length (refusedLine number) ≤ 29 ⌝ }
+{
+    let mut made = [0u8; 29];
+    let word = put_word(&mut made, 0, b"refused ");
+    let end = put_number(&mut made, word, number as u64);
+    let n = put_word(&mut made, end, b"\n");
+    give(&made[..n], out)
+}
