@@ -2,14 +2,12 @@
 --     Common     two sets with a partition in common
 --     Masks      cores as bits
 --     Places     an array with a place for each core
---     Linear     a job's delay as a sum of weights
 --     Weighed    the weight from the bits
 --     Requests   RD from the weights
 --     Bounds     how large both get
 pub mod Common
 pub mod Masks
 pub mod Places
-pub mod Linear
 pub mod Weighed
 pub mod Requests
 pub mod Bounds

@@ -1,5 +1,5 @@
 -- RD is the row's part and the weight of one request of each core; and the row's part from the bits of near and far cores. Assumes nothing.
-use mathlib.Core.Path.{_≡_, refl}
+use mathlib.Core.Path.{_≡_, refl, sym}
 use mathlib.Core.Bool.{cond}
 use mathlib.Core.List.{List, [], _∷_, map}
 use Prim.Native.Nat.{ℕ, _+_, _*_, _^_, _≤_, _<_}
@@ -14,14 +14,13 @@ use Rattle.rules.specs.Idioms.{sumOver, isEmpty, from, upTo, entry, filled}
 use Rattle.rules.specs.Cores.{isNear, isFar, near, far}
 use Rattle.rules.specs.Dram.{conflict, inter, intra, RD}
 use Rattle.rules.proofs.Sums.{sum-append, upTo-next}
-use Rattle.rules.proofs.Weights.{weight}
+use Rattle.rules.proofs.Weights.{weight, by-weights}
 use Rattle.timing.specs.declared.Figures.{Figures}
 use Rattle.timing.specs.Figures.{figuresOf, FiguresBounded}
 use Rattle.board.specs.declared.CoreCosts.{CoreCosts}
 use Rattle.board.specs.Costs.{costsOf, rowPart, Shows}
 use Rattle.board.proofs.Masks.{mask-ones, mask-none}
 use Rattle.board.proofs.Places.{place-next}
-use Rattle.board.proofs.Linear.{linear}
 use Rattle.board.proofs.Weighed.{fars-at}
 
 -- ---- RD
@@ -34,7 +33,7 @@ set-apart (q ∷ l) f x y = omega arith
 module _ (t : Table) (p : ℕ) where
   one-each : sumOver (upTo (t .cores)) (weight t p) ≡ inter t p + sumOver (near t p) (λ q. conflict t .0 + inter t q)
   unfolding inter
-  one-each = simp one-mul at (linear t p (λ q. 1))
+  one-each = simp one-mul at (sym (by-weights t (λ q. 1) p))
 
   pub RD-by-weights : RD t p ≡ rowPart t p + sumOver (upTo (t .cores)) (weight t p)
   unfolding RD intra rowPart

@@ -30,46 +30,53 @@ ifNear t p q = cond (isNear t p q) (conflict t .0) 0
 unfoldable pub weight : Table → ℕ → ℕ → ℕ
 weight t p q = ifFar t p q + ifNear t p q + sumOver (near t p) (λ r. ifFar t r q)
 
--- ---- JD, core by core
+-- ---- what a q requests of each core q cost core p, core by core
 
-module _ (t : Table) (x : ℕ) where
-  -- every core's arrivals at a price
+module _ (t : Table) (a : ℕ → ℕ) where
+  -- every core's requests at a price
   abbrev charged : (ℕ → ℕ) → ℕ
-  charged price = sumOver (upTo (t .cores)) (λ q. arrivals t q x * price q)
+  charged price = sumOver (upTo (t .cores)) (λ q. a q * price q)
+
+  -- those of the far cores, each at a crossing
+  abbrev crossed : ℕ → ℕ
+  crossed p = sumOver (far t p) (λ q. a q * crossing t .0)
 
   charged-plus : (f g : ℕ → ℕ) → charged (λ q. f q + g q) ≡ charged f + charged g
   charged-plus f g =
-      sum-same _ _ (upTo (t .cores)) (λ q m. omega arith)
-      ∙ sum-plus (λ q. arrivals t q x * f q) (λ q. arrivals t q x * g q) (upTo (t .cores))
+      sum-same _ _ (upTo (t .cores)) (λ q m. omega arith) ∙ sum-plus (λ q. a q * f q) (λ q. a q * g q) (upTo (t .cores))
 
   charged-sum : (f : ℕ → ℕ → ℕ) (rs : List ℕ) → sumOver rs (λ r. charged (f r)) ≡ charged (λ q. sumOver rs (λ r. f r q))
   charged-sum f rs =
-      sum-swap (λ r q. arrivals t q x * f r q) rs (upTo (t .cores))
-      ∙ sum-same _ _ (upTo (t .cores)) (λ q m. sum-times (arrivals t q x) (λ r. f r q) rs)
+      sum-swap (λ r q. a q * f r q) rs (upTo (t .cores))
+      ∙ sum-same _ _ (upTo (t .cores)) (λ q m. sum-times (a q) (λ r. f r q) rs)
 
-  jinter-charged : (p : ℕ) → jinter t p x ≡ charged (ifFar t p)
-  unfolding jinter far
-  jinter-charged p = sum-those-times (isFar t p) (λ q. arrivals t q x) (crossing t .0) (upTo (t .cores))
+  crossed-charged : (p : ℕ) → crossed p ≡ charged (ifFar t p)
+  unfolding far
+  crossed-charged p = sum-those-times (isFar t p) a (crossing t .0) (upTo (t .cores))
 
-  conflicts-charged : (p : ℕ) → sumOver (near t p) (λ q. arrivals t q x * conflict t .0) ≡ charged (ifNear t p)
+  conflicts-charged : (p : ℕ) → sumOver (near t p) (λ q. a q * conflict t .0) ≡ charged (ifNear t p)
   unfolding near
-  conflicts-charged p = sum-those-times (isNear t p) (λ q. arrivals t q x) (conflict t .0) (upTo (t .cores))
+  conflicts-charged p = sum-those-times (isNear t p) a (conflict t .0) (upTo (t .cores))
 
-  passed-on-charged : (p : ℕ) → sumOver (near t p) (λ r. jinter t r x) ≡ charged (λ q. sumOver (near t p) (λ r. ifFar t r q))
-  passed-on-charged p = sum-same _ _ (near t p) (λ r m. jinter-charged r) ∙ charged-sum (ifFar t) (near t p)
+  passed-on-charged : (p : ℕ) → sumOver (near t p) crossed ≡ charged (λ q. sumOver (near t p) (λ r. ifFar t r q))
+  passed-on-charged p = sum-same _ _ (near t p) (λ r m. crossed-charged r) ∙ charged-sum (ifFar t) (near t p)
+
+  pub by-weights : (p : ℕ) → crossed p + sumOver (near t p) (λ q. a q * conflict t .0 + crossed q) ≡ charged (weight t p)
+  unfolding weight
+  by-weights p =
+      omega (
+        arith,
+        crossed-charged p,
+        conflicts-charged p,
+        passed-on-charged p,
+        sum-plus (λ q. a q * conflict t .0) crossed (near t p),
+        charged-plus (ifFar t p) (ifNear t p),
+        charged-plus (λ q. ifFar t p q + ifNear t p q) (λ q. sumOver (near t p) (λ r. ifFar t r q)),
+      )
 
 pub JD-by-core : (t : Table) (p x : ℕ) → JD t p x ≡ sumOver (upTo (t .cores)) (λ q. arrivals t q x * weight t p q)
-unfolding JD weight
-JD-by-core t p x =
-    omega (
-      arith,
-      jinter-charged t x p,
-      conflicts-charged t x p,
-      passed-on-charged t x p,
-      sum-plus (λ q. arrivals t q x * conflict t .0) (λ q. jinter t q x) (near t p),
-      charged-plus t x (ifFar t p) (ifNear t p),
-      charged-plus t x (λ q. ifFar t p q + ifNear t p q) (λ q. sumOver (near t p) (λ r. ifFar t r q)),
-    )
+unfolding JD jinter
+JD-by-core t p x = by-weights t (λ q. arrivals t q x) p
 
 -- ---- a core's own requests cost it nothing
 
