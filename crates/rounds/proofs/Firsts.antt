@@ -1,0 +1,91 @@
+-- The first late start and the first high one, as a loop over places finds them: i places are passed, and place i has number i + 1. Assumes nothing.
+use mathlib.Core.Path.{_≡_, ap, _∙_}
+use mathlib.Core.Bool.{Bool, true, false, cond}
+use mathlib.Core.List.{List, map}
+use Prim.Native.Nat.{ℕ, _+_, _-_, _≤_, _<_}
+use native.Mathlib.Nat.{sub-zero}
+use native.Mathlib.Omega.{arith}
+use lib.ListN.{getD}
+use borrow.Author.Tests.{lt-ltb, le-ltb, ltb-false}
+use Rattle.rules.specs.declared.Table.{Table}
+use Rattle.rules.specs.declared.Refusal.{Refusal}
+use Rattle.rules.specs.declared.Answer.{Answer}
+use Rattle.rules.specs.declared.AllJudged.{AllJudged}
+use Rattle.rules.specs.Idioms.{upTo, entry, filled}
+use Rattle.rules.specs.Tasks.{D, latest, noTask, taskOf}
+use Rattle.rules.specs.Judgement.{misses, judge}
+use Rattle.rules.specs.Refusals.{accepted, refused, isAccepted, firstFrom, first, lateStart, highStart}
+use Rattle.rules.specs.Operations.{answersFrom}
+use Rattle.rules.proofs.First.{first-hit, first-next, first-done, none-first}
+use Rattle.rounds.specs.declared.Climbed.{Climbed}
+use Rattle.rounds.specs.Numbered.{climbedFor, firstLate, firstHigh, noneJudged, judgedTasks}
+
+-- what is left of looking for the first fault at place i
+abbrev pub Left : ℕ → (ℕ → Bool) → ℕ → ℕ → Type 0
+Left number fault n i = first number fault n ≡ firstFrom number fault (i + 1) (n - i)
+
+module _ (number : ℕ) (fault : ℕ → Bool) (n : ℕ) where
+  pub left-all : Left number fault n 0
+  left-all = rw sub-zero
+
+  module _ (i : ℕ) (left : Left number fault n i) where
+    pub left-hit : i < n → fault (i + 1) ≡ true → refused number (i + 1) ≡ first number fault n
+    left-hit h e = rw (left, first-hit number fault n i h e)
+
+    pub left-next : i < n → fault (i + 1) ≡ false → Left number fault n (i + 1)
+    left-next h e = left ∙ first-next number fault n i h e
+
+    pub left-none : n ≤ i → accepted ≡ first number fault n
+    left-none h = rw (left, first-done number fault n i h)
+
+-- ---- 13
+
+abbrev pub lates : Table → List ℕ → ℕ → Bool
+lates t starts k = lateStart t k (entry 0 starts k)
+
+module _ (t : Table) (starts : List ℕ) (i : ℕ) where
+  pub late-true : D (getD (t .task) i noTask) < getD starts i 0 → lates t starts (i + 1) ≡ true
+  unfolding lateStart latest
+  late-true h = let e : i + 1 - 1 ≡ i = omega arith in rw e (lt-ltb _ _ h)
+
+  pub late-false : getD starts i 0 ≤ D (getD (t .task) i noTask) → lates t starts (i + 1) ≡ false
+  unfolding lateStart latest
+  late-false h = let e : i + 1 - 1 ≡ i = omega arith in rw e (le-ltb _ _ h)
+
+-- a start that is not late
+pub on-time : (t : Table) (starts : List ℕ) → isAccepted (firstLate t starts) ≡ true → (i : ℕ) → i < t .tasks → getD starts i 0 ≤ D (taskOf t (i + 1))
+unfolding firstLate lateStart latest
+on-time t starts e i h =
+    let less : i + 1 - 1 ≡ i = omega arith in
+    rw less (rw less at (ltb-false (D (taskOf t (i + 1))) (entry 0 starts (i + 1)) (none-first 12 (lates t starts) (t .tasks) e (i + 1) (omega arith) (omega arith))))
+
+-- ---- 14
+
+abbrev pub highs : Table → List ℕ → ℕ → Bool
+highs t starts k = highStart t k (entry 0 starts k)
+
+abbrev pub answerTo : Table → List ℕ → ℕ → Answer
+answerTo t starts k = judge t k (entry 0 starts k)
+
+module _ (t : Table) (starts : List ℕ) (i : ℕ) {r : Climbed} (is : r ≡ climbedFor t (i + 1) (getD starts i 0)) where
+  pub high-is : r .high ≡ highs t starts (i + 1)
+  unfolding climbedFor
+  high-is = let less : i + 1 - 1 ≡ i = omega arith in rw less (ap (λ (r : Climbed). r .high) is)
+
+  pub answer-is : r .high ≡ false → r .answer ≡ answerTo t starts (i + 1)
+  unfolding climbedFor
+  answer-is low =
+      let less : i + 1 - 1 ≡ i = omega arith in
+      let e : r .answer ≡ cond (r .high) (misses 0) (judge t (i + 1) (getD starts i 0)) = rw is in
+      rw less (rw low at e)
+
+module _ (t : Table) (starts : List ℕ) where
+  pub refused-tasks : (r : Refusal) → isAccepted r ≡ false → r ≡ firstHigh t starts → noneJudged r ≡ judgedTasks t starts
+  unfolding noneJudged judgedTasks
+  refused-tasks r refuses e = rw (← e, refuses)
+
+  pub answered-tasks : (answers : List Answer) → accepted ≡ firstHigh t starts
+      → answers ≡ filled 32 (misses 0) (map (answerTo t starts) (upTo (t .tasks)))
+      → _≡_ {A = AllJudged} (record { refusal = accepted; answers = answers }) (judgedTasks t starts)
+  unfolding judgedTasks answersFrom
+  answered-tasks answers e all = rw (← e, all)
