@@ -1,21 +1,21 @@
 // The C interface: include/ryeobadum.h. A `&[u8]` is a pointer and then a length.
-mod judge;
-
 use rules::Answer;
 use rules::Delay;
 use rules::Refusal;
 use rules::Verdict;
 ghost use mathlib.Core.Path.{_≡_};
-ghost use mathlib.Core.List.{map};
 ghost use Prim.Native.Nat.{_+_, _*_, _-_, _≤_};
 ghost use lib.ListN.{set, take};
 ghost use Rattle.rules.specs.Idioms.{filled};
 ghost use Rattle.rules.specs.Judgement.{boundOf};
 ghost use Rattle.rules.specs.Operations.{checkFile};
+ghost use Rattle.rules.specs.Listing.{listing};
+ghost use Rattle.listing.specs.Put.{Given};
 ghost use Rattle.capi.specs.Codes.{codeOf, byNumber};
 ghost use Rattle.capi.specs.Columns.{Columns, JudgedFile};
 ghost use Rattle.capi.specs.Record.{recordPlace};
 
+// Number and place in one; 0 where nothing is refused.
 fn code(refusal: Refusal) -> u16
     ensures { λ r. ⌜ r ≡ codeOf refusal ⌝ }
 {
@@ -98,6 +98,7 @@ fn all_starts(starts: &[u64]) -> [u64; 32]
     all
 }
 
+// The refusal of a table file, 0 where it is accepted.
 #[no_mangle]
 pub extern "C" fn ryb_read(file: &[u8]) -> u16
     ensures { λ r. ⌜ r ≡ codeOf (checkFile (now (file .entry))) ⌝ }
@@ -106,6 +107,7 @@ pub extern "C" fn ryb_read(file: &[u8]) -> u16
     code(read.refusal)
 }
 
+// Reads and judges all tasks. A refusal changes nothing.
 #[no_mangle]
 pub extern "C" fn ryb_judge(
     file: &[u8],
@@ -130,6 +132,14 @@ pub extern "C" fn ryb_judge(
     0
 }
 
+// The listing of a table file, whole, and its length; where it does not fit, nothing, and 0.
+#[no_mangle]
+pub extern "C" fn ryb_list(file: &[u8], out: &mut [u8]) -> usize
+    ensures { λ r. ⌜ Given (listing (now (file .entry))) (now (out .entry)) r (now (out .exit)) ⌝ }
+{
+    listing::list(file, out)
+}
+
 // "34 + 2 times cores + 29 times (k − 1)"
 fn record_at(cores: u8, task: u8) -> usize
     requires { ⌜ 1 ≤ task ⌝ }
@@ -138,6 +148,7 @@ fn record_at(cores: u8, task: u8) -> usize
     34 + 2 * (cores as usize) + 29 * ((task as usize) - 1)
 }
 
+// Where a task's record starts in the file, 0 where there is none.
 #[no_mangle]
 pub extern "C" fn ryb_record(file: &[u8], task: u8) -> usize
     ensures { λ r. ⌜ r ≡ recordPlace (now (file .entry)) task ⌝ }
