@@ -1,5 +1,5 @@
 -- Refusals 1 to 4 one at a time: what each of the tests, in their order, makes of a file. Assumes nothing.
-use mathlib.Core.Path.{_≡_, refl}
+use mathlib.Core.Path.{_≡_}
 use mathlib.Core.List.{List}
 use Prim.Native.Nat.{ℕ, _+_, _*_, _-_, _<_, _≤_}
 use native.Mathlib.Omega.{arith}
@@ -14,9 +14,9 @@ pub length-is : (form cores tasks : ℕ) → fileLength form cores tasks ≡ 46 
 unfolding fileLength recordsAt setsAt recordSize
 length-is form cores tasks = omega arith
 
-pub record-at-is : (form cores k : ℕ) → recordAt form cores k ≡ 34 + 2 * cores + 29 * (k - 1)
+pub record-at-is : (form cores i : ℕ) → recordAt form cores (i + 1) ≡ 34 + 2 * cores + 29 * i
 unfolding recordAt recordsAt setsAt recordSize
-record-at-is form cores k = refl
+record-at-is form cores i = omega arith
 
 module _ (s : List ℕ) where
   pub too-short : length s < 46 → checkWhole s ≡ refused 1 0

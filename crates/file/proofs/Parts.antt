@@ -1,10 +1,10 @@
 -- Numbers that stand in a part of a file: a part in two, and its number by the numbers of the two. Assumes nothing.
-use mathlib.Core.Path.{_≡_, refl, _∙_}
+use mathlib.Core.Path.{_≡_}
 use mathlib.Core.List.{List, [], _∷_, _++_}
-use Prim.Native.Nat.{ℕ, zero, suc, _+_, _*_, _-_, _^_, _≤_, _<_}
+use Prim.Native.Nat.{ℕ, _+_, _*_, _^_, _≤_, _<_}
 use native.Mathlib.Omega.{arith}
 use native.Mathlib.Nat.{pow-suc}
-use lib.ListN.{length, length-drop, take, drop, getD}
+use lib.ListN.{length, length-drop, drop, getD}
 use lib.Seq.{take-add, drop-drop, drop-cons, length-take-le}
 use Rattle.rules.specs.Idioms.{number, part}
 

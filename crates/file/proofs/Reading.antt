@@ -1,5 +1,5 @@
 -- Reading and viewing, one refusal at a time, and what an accepted file is known to be. Assumes nothing.
-use mathlib.Core.Path.{_≡_, refl, sym, _∙_}
+use mathlib.Core.Path.{_≡_, refl, _∙_}
 use mathlib.Core.Bool.{Bool, true, false, _&&_}
 use mathlib.Core.Logic.{_⊎_, ⊎-elim}
 use mathlib.Core.List.{List, []}
@@ -7,15 +7,13 @@ use Prim.Native.Nat.{ℕ, suc, _+_, _*_, _<_, _≤_}
 use native.Mathlib.Decide.{decLe, ℕ-discrete}
 use native.Mathlib.Omega.{arith}
 use lib.ListN.{length}
-use borrow.Author.Tests.{lt-ltb, le-leb, lt-leb, ltb-false, eqb-true, not-false}
+use borrow.Author.Tests.{le-leb, lt-leb, eqb-true, not-false}
 use Rattle.rules.specs.declared.Table.{Table}
-use Rattle.rules.specs.declared.Read.{Read}
-use Rattle.rules.specs.Idioms.{within}
 use Rattle.rules.specs.Refusals.{accepted, refused, isAccepted, given, countsFault, checkBoard, checkTable, askedFault}
 use Rattle.rules.specs.Sound.{Within}
 use Rattle.rules.specs.File.{coresIn, tasksIn, formIn, fileLength, recordIn, checkWhole, decode}
 use Rattle.rules.specs.Operations.{checkFile, reading, checkView, viewing}
-use Rattle.rules.proofs.Chain.{both-accepted, no-fault, second-decides}
+use Rattle.rules.proofs.Chain.{both-accepted, no-fault}
 use Rattle.rules.proofs.Tests.{inside}
 use Rattle.file.specs.Answers.{readNothing}
 use Rattle.file.proofs.Checks.{length-is, too-short, wrong-length}

@@ -1,5 +1,5 @@
 -- The two sums of a file's trailer together, as one pass gives them, and the refusals that look at the trailer. Assumes nothing.
-use Prim.Native.Nat.{ℕ, _+_, _-_}
+use Prim.Native.Nat.{ℕ, _-_}
 use mathlib.Core.Bool.{not, _||_}
 use mathlib.Core.List.{List}
 use lib.Dec.{eqb}

@@ -1,9 +1,9 @@
 // Table files: sums and trailer, reader, writer, view. What the bytes mean is in the rules; here is how they are read and written.
 
 ghost use mathlib.Core.Path.{_≡_};
-ghost use Prim.Native.Nat.{ℕ, _+_, _-_, _*_, _<_, _≤_};
+ghost use Prim.Native.Nat.{_+_, _*_, _<_, _≤_};
 ghost use mathlib.Core.List.{map};
-ghost use lib.ListN.{length, take, drop};
+ghost use lib.ListN.{length, take};
 ghost use lib.Seq.{sets};
 ghost use Rattle.rules.specs.Idioms.{joined, filled, number, bytes, part};
 ghost use Rattle.rules.specs.Tasks.{noTask, tasksOf};
@@ -19,6 +19,8 @@ use rules::Refusal;
 use rules::Table;
 use rules::Task;
 use rules::Written;
+
+// ---- numbers and sums
 
 // The numbers that two, four and eight bytes give.
 fn le16(s: &[u8], at: usize) -> u16
@@ -42,23 +44,24 @@ fn le64(s: &[u8], at: usize) -> u64
     (le32(s, at) as u64) + 4294967296 * (le32(s, at + 4) as u64)
 }
 
-// The sum of bytes and the sum of the running sums after each of them.
+// "the sum of those bytes, and the sum of the running sums after each of them"
 struct Totals {
     sum: u64,
     running: u64,
 }
 
+// "These sums are whole numbers": 64 bits hold those of far more bytes than a file can have.
 fn sums(s: &[u8]) -> Totals
     requires { ⌜ length (now s) ≤ 65536 ⌝ }
     ensures { λ r. ⌜ r ≡ sumsOf (now (s .entry)) ⌝ }
 {
     let mut sum: u64 = 0;
     let mut running: u64 = 0;
-    let mut i: usize = 0;
-    while i < s.len() {
-        sum += s[i] as u64;
+    let mut at: usize = 0;
+    while at < s.len() {
+        sum += s[at] as u64;
         running += sum;
-        i += 1;
+        at += 1;
     }
     Totals {
         sum: sum,
@@ -66,6 +69,9 @@ fn sums(s: &[u8]) -> Totals
     }
 }
 
+// ---- did the file come whole?
+
+// A count as a size.
 fn size(x: u8) -> usize
     ensures { λ r. ⌜ r ≡ x ⌝ }
     ensures { λ r. ⌜ r < 256 ⌝ }
@@ -73,6 +79,7 @@ fn size(x: u8) -> usize
     x as usize
 }
 
+// A refusal that has no place; number 0 refuses nothing.
 fn no_place(number: u8) -> Refusal
     ensures { λ r. ⌜ r ≡ refused number 0 ⌝ }
 {
@@ -111,7 +118,7 @@ fn trailer(file: &[u8]) -> Refusal
     no_place(0)
 }
 
-// 1 to 4: did the file come whole?
+// 1 to 4.
 pub fn whole(file: &[u8]) -> Refusal
     ensures { λ r. ⌜ r ≡ checkWhole (now (file .entry)) ⌝ }
 {
@@ -143,14 +150,13 @@ fn task_in(part: &[u8]) -> Task
     }
 }
 
-// "34 + 2 times cores + 29 times (k − 1)"
-fn record_at(form: u8, cores: u8, k: usize) -> usize
-    requires { ⌜ 1 ≤ k ⌝ }
-    requires { ⌜ k ≤ 255 ⌝ }
-    ensures { λ r. ⌜ r ≡ recordAt form cores k ⌝ }
-    ensures { λ r. ⌜ r ≡ 34 + 2 * cores + 29 * (k - 1) ⌝ }
+// Where the record in place i starts, which is that of task number i + 1: "34 + 2 times cores + 29 times (k − 1)".
+fn record_at(form: u8, cores: u8, i: usize) -> usize
+    requires { ⌜ i ≤ 255 ⌝ }
+    ensures { λ r. ⌜ r ≡ recordAt form cores (i + 1) ⌝ }
+    ensures { λ r. ⌜ r ≡ 34 + 2 * cores + 29 * i ⌝ }
 {
-    34 + 2 * size(cores) + 29 * (k - 1)
+    34 + 2 * size(cores) + 29 * i
 }
 
 // The n figures of two bytes from a place on.
@@ -167,6 +173,7 @@ fn figures(file: &[u8], at: usize, n: usize, into: &mut [u16])
     }
 }
 
+// A place with no task.
 fn no_task() -> Task
     ensures { λ r. ⌜ r ≡ noTask ⌝ }
 {
@@ -179,6 +186,7 @@ fn no_task() -> Task
     }
 }
 
+// The first n tasks, and no task in the other places.
 fn tasks(file: &[u8], n: usize) -> [Task; 32]
     requires { ⌜ n ≤ 32 ⌝ }
     requires { ⌜ 34 + 2 * coresIn (now file) + 29 * n ≤ length (now file) ⌝ }
@@ -188,7 +196,7 @@ fn tasks(file: &[u8], n: usize) -> [Task; 32]
     let mut all = [none; 32];
     let mut i: usize = 0;
     while i < n {
-        let a = record_at(file[3], file[0], i + 1);
+        let a = record_at(file[3], file[0], i);
         let e = a + 29;
         let task = task_in(&file[a..e]);
         all[i] = task;
@@ -221,7 +229,7 @@ fn table_in(file: &[u8]) -> Table
 }
 
 // "A refused read gives an all-zero table"
-fn no_table(refusal: Refusal) -> Read
+fn read_nothing(refusal: Refusal) -> Read
     ensures { λ r. ⌜ r ≡ readNothing refusal ⌝ }
 {
     let none = no_task();
@@ -247,18 +255,18 @@ pub fn read(file: &[u8]) -> Read
 {
     let came = whole(file);
     if came.number != 0 {
-        return no_table(came);
+        return read_nothing(came);
     }
     if 8 < file[0] {
-        return no_table(no_place(5));
+        return read_nothing(no_place(5));
     }
     if 32 < file[2] {
-        return no_table(no_place(5));
+        return read_nothing(no_place(5));
     }
     let found = table_in(file);
     let refusal = table::check(found);
     if refusal.number != 0 {
-        return no_table(refusal);
+        return read_nothing(refusal);
     }
     Read {
         refusal: refusal,
@@ -294,7 +302,7 @@ pub fn view<'a>(file: &'a [u8], k: u8) -> &'a [u8]
     if refusal.number != 0 {
         return &file[0..0];
     }
-    let a = record_at(file[3], file[0], size(k));
+    let a = record_at(file[3], file[0], size(k) - 1);
     let e = a + 29;
     &file[a..e]
 }
@@ -329,6 +337,7 @@ fn put_figures(out: &mut [u8], at: usize, figures: &[u16], n: usize)
     }
 }
 
+// "core 1, C 8, T 8, D 8, H 4"
 fn put_task(out: &mut [u8], at: usize, form: u8, task: Task)
     requires { ⌜ at + 29 ≤ length (now out) ⌝ }
     ensures { λ _. ⌜ now (out .exit) ≡ sets (now (out .entry)) at (recordBytes form task) ⌝ }
@@ -340,20 +349,22 @@ fn put_task(out: &mut [u8], at: usize, form: u8, task: Task)
     put(out, at + 25, task.requests as u64, 4);
 }
 
+// "Places of a table beyond its counts are ignored by the writer"
 fn put_tasks(out: &mut [u8], t: Table)
     requires { ⌜ t .tasks ≤ 32 ⌝ }
     requires { ⌜ 34 + 2 * t .cores + 29 * t .tasks ≤ length (now out) ⌝ }
     ensures { λ _. ⌜ now (out .exit) ≡ sets (now (out .entry)) (34 + 2 * t .cores) (joined (map (recordBytes (t .fourth)) (tasksOf t))) ⌝ }
 {
-    let n = size(t.tasks);
-    let mut i: usize = 0;
-    while i < n {
-        let task = t.task[i];
-        put_task(out, record_at(t.fourth, t.cores, i + 1), t.fourth, task);
-        i += 1;
+    let count = size(t.tasks);
+    let mut done: usize = 0;
+    while done < count {
+        let task = t.task[done];
+        put_task(out, record_at(t.fourth, t.cores, done), t.fourth, task);
+        done += 1;
     }
 }
 
+// "4 bytes: cores, partitions, tasks, 0"
 fn put_counts(out: &mut [u8], t: Table)
     requires { ⌜ 4 ≤ length (now out) ⌝ }
     ensures { λ _. ⌜ now (out .exit) ≡ sets (now (out .entry)) 0 (counts t) ⌝ }
@@ -379,6 +390,7 @@ fn put_body(out: &mut [u8], t: Table)
     put_tasks(out, t);
 }
 
+// The trailer of the e bytes before it.
 fn put_trailer(out: &mut [u8], e: usize)
     requires { ⌜ e ≤ 7939 ⌝ }
     requires { ⌜ e + 12 ≤ length (now out) ⌝ }
@@ -391,7 +403,7 @@ fn put_trailer(out: &mut [u8], e: usize)
 }
 
 // "a refused writing the length 0"
-fn nothing(refusal: Refusal) -> Written
+fn wrote_nothing(refusal: Refusal) -> Written
     ensures { λ r. ⌜ r ≡ wroteNothing refusal ⌝ }
 {
     Written {
@@ -404,13 +416,13 @@ fn nothing(refusal: Refusal) -> Written
 pub fn write(t: Table, out: &mut [u8]) -> Written
     ensures { λ r. ⌜ Wrote t (now (out .entry)) r (now (out .exit)) ⌝ }
 {
-    let refusal = table::check(t);
-    if refusal.number != 0 {
-        return nothing(refusal);
+    let checked = table::check(t);
+    if checked.number != 0 {
+        return wrote_nothing(checked);
     }
     let n = file_length(t.fourth, t.cores, t.tasks);
     if out.len() < n {
-        return nothing(no_place(15));
+        return wrote_nothing(no_place(15));
     }
     put_body(out, t);
     put_trailer(out, n - 12);

@@ -3,10 +3,11 @@ ghost use mathlib.Core.Path.{_≡_};
 ghost use lib.ListN.{length};
 ghost use Rattle.rules.specs.Order as Order;
 ghost use Rattle.rules.specs.Order.{worseTask, sameBoard};
-ghost use Rattle.rules.specs.Refusals.{refused};
+ghost use Rattle.rules.specs.Refusals as Refusals;
 ghost use Rattle.rules.specs.Operations.{judgeOne, judgeAll};
 ghost use Rattle.rounds.specs.Numbered.{notJudged};
 ghost use Rattle.judge.specs.Same.{alikeTo, allWorse};
+ghost use Rattle.judge.specs.Links.{checkStart};
 
 use rules::{AllJudged, Judged, Refusal, Table, Task};
 
@@ -104,41 +105,58 @@ pub fn worsens(older: Table, newer: Table) -> bool
 }
 
 // A refused judgement of one.
-fn not_judged(number: u8, place: u8) -> Judged
-    ensures { λ r. ⌜ r ≡ notJudged (refused number place) ⌝ }
+fn not_judged(refusal: Refusal) -> Judged
+    ensures { λ r. ⌜ r ≡ notJudged refusal ⌝ }
 {
     let answer = rounds::missed();
-    Judged {
-        refusal: Refusal { number, place },
-        answer,
+    Judged { refusal, answer }
+}
+
+fn refused(number: u8, place: u8) -> Refusal
+    ensures { λ r. ⌜ r ≡ Refusals.refused number place ⌝ }
+{
+    Refusal { number, place }
+}
+
+// Refusals 5 to 13 of a judgement of one task.
+fn check_start(table: Table, k: u8, start: u64) -> Refusal
+    ensures { λ r. ⌜ r ≡ checkStart table k start ⌝ }
+{
+    let refusal = table::check(table);
+    if refusal.number != 0 {
+        return refusal;
     }
+    if k == 0 {
+        return refused(12, 0);
+    }
+    if table.tasks < k {
+        return refused(12, 0);
+    }
+    let i = (k as usize) - 1;
+    let task = table.task[i];
+    if task.deadline.0 < start {
+        return refused(13, k);
+    }
+    refused(0, 0)
 }
 
 // "A judgement is of one task with one start": refusals 5 to 14, or the answer.
 pub fn judge_one(table: Table, k: u8, start: u64) -> Judged
     ensures { λ r. ⌜ r ≡ judgeOne table k start ⌝ }
 {
-    let refusal = table::check(table);
+    let refusal = check_start(table, k, start);
     if refusal.number != 0 {
-        return not_judged(refusal.number, refusal.place);
-    }
-    if k == 0 {
-        return not_judged(12, 0);
-    }
-    if table.tasks < k {
-        return not_judged(12, 0);
-    }
-    let i = (k as usize) - 1;
-    let task = table.task[i];
-    if task.deadline.0 < start {
-        return not_judged(13, k);
+        return not_judged(refusal);
     }
     let climbed = rounds::judge_task(table, k, start);
     if climbed.high {
-        return not_judged(14, k);
+        return not_judged(refused(14, k));
     }
     let answer = climbed.answer;
-    Judged { refusal, answer }
+    Judged {
+        refusal: refused(0, 0),
+        answer,
+    }
 }
 
 // "or of all with 32 starts": refusals 5 to 11, 13 and 14, or the answers.

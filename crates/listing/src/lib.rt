@@ -12,7 +12,7 @@ use text::put_number;
 use text::put_word;
 ghost use Prim.Native.Nat.{_≤_};
 ghost use lib.ListN.{length};
-ghost use Rattle.rules.specs.Listing.{tableLines};
+ghost use Rattle.rules.specs.Listing.{tableLines, listing};
 ghost use Rattle.listing.specs.Put.{Put, Given};
 ghost use Rattle.listing.specs.Lines.{tableText, refusedLine};
 
@@ -53,4 +53,20 @@ pub fn refused(number: u8, out: &mut [u8]) -> usize
     let end = put_number(&mut made, word, number as u64);
     let n = put_word(&mut made, end, b"\n");
     give(&made[..n], out)
+}
+
+// The listing of a table file, whole, and its length; where it does not fit, nothing, and 0.
+pub fn list(file: &[u8], out: &mut [u8]) -> usize
+    ensures { λ r. ⌜ Given (listing (now (file .entry))) (now (out .entry)) r (now (out .exit)) ⌝ }
+    ensures { λ _. ⌜ length (listing (now (file .entry))) ≤ 3266 ⌝ }
+{
+    let read = file::read(file);
+    let refusal = read.refusal;
+    if refusal.number != 0 {
+        return refused(refusal.number, out);
+    }
+    let table = read.table;
+    let judged = judge::judge_all(table, [0u64; 32]);
+    let answers = judged.answers;
+    lines(table, answers, out)
 }

@@ -5,7 +5,7 @@ ghost use Prim.Native.Nat.{_≤_, _<_, _^_};
 ghost use lib.Dec.{eqb, ltb};
 ghost use Rattle.rules.specs.Idioms.{within};
 ghost use Rattle.rules.specs.Tasks.{taskOf};
-ghost use Rattle.rules.specs.Refusals.{refused, first, _orElse_, countsFault, setFault, timeFault, checkTable};
+ghost use Rattle.rules.specs.Refusals.{refused, first, countsFault, setFault, timeFault, checkTasks, checkTable};
 ghost use Rattle.table.specs.Faults.{taskFault, figuresChecked};
 use rules::Refusal;
 use rules::Table;
@@ -14,10 +14,7 @@ use rules::Task;
 fn refusal(number: u8, place: u8) -> Refusal
     ensures { λ r. ⌜ r ≡ refused number place ⌝ }
 {
-    Refusal {
-        number: number,
-        place: place,
-    }
+    Refusal { number, place }
 }
 
 fn outside(lowest: u64, highest: u64, x: u64) -> bool
@@ -106,7 +103,7 @@ fn task_fault(number: u8, cores: u8, x: Task) -> bool
 }
 
 // 9, 10 or 11, over the tasks.
-fn check_tasks(number: u8, t: Table) -> Refusal
+fn walk_tasks(number: u8, t: Table) -> Refusal
     requires { ⌜ t .tasks ≤ 32 ⌝ }
     ensures { λ r. ⌜ r ≡ first number (λ k. taskFault number (t .cores) (taskOf t k)) (t .tasks) ⌝ }
 {
@@ -121,11 +118,20 @@ fn check_tasks(number: u8, t: Table) -> Refusal
     refusal(0, 0)
 }
 
-// "The lowest number that applies is given": the first of two that refuses.
-fn or_else(a: Refusal, b: Refusal) -> Refusal
-    ensures { λ r. ⌜ r ≡ (a orElse b) ⌝ }
+// "The lowest number that applies is given": 9, then 10, then 11.
+fn check_tasks(t: Table) -> Refusal
+    requires { ⌜ t .tasks ≤ 32 ⌝ }
+    ensures { λ r. ⌜ r ≡ checkTasks t ⌝ }
 {
-    if a.number == 0 { b } else { a }
+    let cores = walk_tasks(9, t);
+    if cores.number != 0 {
+        return cores;
+    }
+    let times = walk_tasks(10, t);
+    if times.number != 0 {
+        return times;
+    }
+    walk_tasks(11, t)
 }
 
 // 6 to 11, of a table whose counts are within their limits.
@@ -133,20 +139,16 @@ fn check_figures(t: Table) -> Refusal
     requires { ⌜ (t .cores ≤ 8) × (t .partitions ≤ 16) × (t .tasks ≤ 32) ⌝ }
     ensures { λ r. ⌜ r ≡ figuresChecked t ⌝ }
 {
-    let timing = t.timing;
-    let figures = timing::check_timing(timing);
-    if figures.number != 0 {
-        return figures;
+    let row = t.timing;
+    let timing = timing::check_timing(row);
+    if timing.number != 0 {
+        return timing;
     }
     let sets = check_sets(t);
     if sets.number != 0 {
         return sets;
     }
-    let cores = check_tasks(9, t);
-    if cores.number != 0 {
-        return cores;
-    }
-    or_else(check_tasks(10, t), check_tasks(11, t))
+    check_tasks(t)
 }
 
 // "a table passed directly meets 5 to 11"

@@ -1,5 +1,5 @@
 -- The length of a file by its counts. Assumes nothing.
-use mathlib.Core.Path.{_∙_, sym}
+
 use native.Mathlib.Omega.{arith}
 use borrow.Author.Needs.{needs}
 use Rattle.file.proofs.Checks.{length-is}

@@ -1,5 +1,5 @@
 -- What stands before the trailer, part by part. Assumes nothing.
-use Prim.Native.Nat.{_≤_}
+
 use mathlib.Core.Path.{_≡_}
 use native.Mathlib.Omega.{arith}
 use borrow.Author.Needs.{needs}

@@ -15,11 +15,11 @@ use Rattle.file.proofs.put_tasks.Statement.{statement}
 use Rattle.file.proofs.put_tasks.Tie as tie
 
 abbrev Inv-loop : tie.InvT-loop
-Inv-loop out₀ t n i₀ out i =
-    (i ≤ n) × (length out ≡ length out₀) × (out ≡ sets out₀ (34 + 2 * t .cores) (joined (map (recordBytes (t .fourth)) (take i (t .task)))))
+Inv-loop out₀ t count done₀ out done =
+    (done ≤ count) × (length out ≡ length out₀) × (out ≡ sets out₀ (34 + 2 * t .cores) (joined (map (recordBytes (t .fourth)) (take done (t .task)))))
 
 abbrev μ-loop : tie.MeasureT-loop
-μ-loop out₀ t n i₀ out i = n - i
+μ-loop out₀ t count done₀ out done = count - done
 
 all-32 : (c : tie.Start Inv-loop μ-loop) → length (c .args .t2 .task) ≡ 32
 all-32 c = search (needs, unmapped)
@@ -31,19 +31,19 @@ loop-again c =
     let start = p .before .before .before .before .before .before .before .before in
     let a = start .args in
     let t = a .t2 in
-    let at : p .before .record-at .result ≡ 34 + 2 * t .cores + 29 * l .i = omega (arith, p .before .record-at .ensures .1) in (
+    let at : p .before .record-at .result ≡ 34 + 2 * t .cores + 29 * l .done = omega (arith, p .before .record-at .ensures .1) in (
       search needs,
       search needs,
       rw (p .put-task .ensures, at, l .inv .2)
-          (store-next (recordBytes (t .fourth)) 29 (record-length (t .fourth)) (a .out .now) (34 + 2 * t .cores) (t .task) (l .i) noTask (omega (arith, all-32 start))),
+          (store-next (recordBytes (t .fourth)) 29 (record-length (t .fourth)) (a .out .now) (34 + 2 * t .cores) (t .task) (l .done) noTask (omega (arith, all-32 start))),
     )
 
 returns : tie.Need-returns Inv-loop μ-loop
 returns c =
-    let e : c .before .loop .i ≡ c .before .before .before .before .args .t2 .tasks = omega arith in
+    let e : c .before .loop .done ≡ c .before .before .before .before .args .t2 .tasks = omega arith in
     rw e at (c .before .loop .inv .2)
 
 pub put-tasks-spec : {M : Type 1} → statement M
 put-tasks-spec =
     tie.close
-    (tie.spec Inv-loop μ-loop (λ c κs. search needs) (λ c. search needs) (λ c. search needs) (λ c. search needs) (λ c. search needs) (λ c κs. search needs) (λ c κs. search needs) (λ c. search needs) (λ c. search needs) loop-again (λ c. search needs) returns)
+    (tie.spec Inv-loop μ-loop (λ c κs. search needs) (λ c. search needs) (λ c. search needs) (λ c. search needs) (λ c κs. search needs) (λ c κs. search needs) (λ c. search needs) (λ c. search needs) loop-again (λ c. search needs) returns)

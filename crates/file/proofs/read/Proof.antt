@@ -15,7 +15,7 @@ returns : tie.Need-returns
 returns c =
     let w = c .before .before .before in
     let s = w .before .before .args .file .now in
-    c .no-table .ensures ∙ rw (w .whole .ensures) (sym (not-whole s (rw (w .whole .ensures) at (ne-eqb _ _ (c .before .if1 .taken)))))
+    c .read-nothing .ensures ∙ rw (w .whole .ensures) (sym (not-whole s (rw (w .whole .ensures) at (ne-eqb _ _ (c .before .if1 .taken)))))
 
 came : (c : tie.Else1) → isAccepted (checkWhole (c .before .before .before .before .args .file .now)) ≡ true
 came c = rw (c .before .before .whole .ensures) at (eq-eqb _ _ (c .if1 .left))
@@ -29,7 +29,7 @@ returns-2 : tie.Need-returns-2
 returns-2 c =
     let e = c .before .before .before .before in
     let s = e .before .before .before .before .args .file .now in
-    c .no-table2 .ensures ∙ rw (c .before .no-place .ensures) (sym (counted-out s (came e) (inl (c .before .before .if2 .taken))))
+    c .read-nothing2 .ensures ∙ rw (c .before .no-place .ensures) (sym (counted-out s (came e) (inl (c .before .before .if2 .taken))))
 
 shared-slice-read-if3 : tie.Need-shared-slice-read-if3
 shared-slice-read-if3 c =
@@ -40,7 +40,7 @@ returns-3 : tie.Need-returns-3
 returns-3 c =
     let e = c .before .before .before .before .before .before in
     let s = e .before .before .before .before .args .file .now in
-    c .no-table3 .ensures ∙ rw (c .before .no-place2 .ensures) (sym (counted-out s (came e) (inr (c .before .before .if3 .taken))))
+    c .read-nothing3 .ensures ∙ rw (c .before .no-place2 .ensures) (sym (counted-out s (came e) (inr (c .before .before .if3 .taken))))
 
 table-in-requires : tie.Need-table-in-requires
 table-in-requires c κs =
@@ -52,7 +52,7 @@ returns-4 c =
     let d = c .before .before .before in
     let e = d .before .before .before .before .before .before in
     let s = e .before .before .before .before .args .file .now in
-    c .no-table4 .ensures
+    c .read-nothing4 .ensures
     ∙ rw (d .check .ensures, d .before .table-in .ensures)
     (sym (read-refused s (came e) (rw (d .check .ensures, d .before .table-in .ensures) at (ne-eqb _ _ (c .before .if4 .taken)))))
 

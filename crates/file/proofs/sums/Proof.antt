@@ -11,35 +11,35 @@ use Rattle.file.proofs.sums.Statement.{statement}
 use Rattle.file.proofs.sums.Tie as tie
 
 abbrev Inv-loop : tie.InvT-loop
-Inv-loop s sum₀ running₀ i₀ sum running i =
-    (i ≤ length s) × (sum ≤ 255 * i) × (running ≤ 16777216 * i) × (sum ≡ sumOf (take i s)) × (running ≡ runningSum (take i s))
+Inv-loop s sum₀ running₀ at₀ sum running at =
+    (at ≤ length s) × (sum ≤ 255 * at) × (running ≤ 16777216 * at) × (sum ≡ sumOf (take at s)) × (running ≡ runningSum (take at s))
 
 abbrev μ-loop : tie.MeasureT-loop
-μ-loop s sum₀ running₀ i₀ sum running i = length s - i
+μ-loop s sum₀ running₀ at₀ sum running at = length s - at
 
 loop-holds : tie.Need-loop-holds Inv-loop μ-loop
 unfolding runningSum
 loop-holds c = search needs
 
 cast-sum : tie.Need-cast-sum Inv-loop μ-loop
-cast-sum c = omega (arith, c .shared-slice-known .given (c .before .before .loop .i))
+cast-sum c = omega (arith, c .shared-slice-known .given (c .before .before .loop .at))
 
 add-sum : tie.Need-add-sum Inv-loop μ-loop
-add-sum c = omega (arith, c .shared-slice-known .given (c .before .before .loop .i))
+add-sum c = omega (arith, c .shared-slice-known .given (c .before .before .loop .at))
 
 add-running : tie.Need-add-running Inv-loop μ-loop
-add-running c = omega (arith, c .shared-slice-known .given (c .before .before .loop .i))
+add-running c = omega (arith, c .shared-slice-known .given (c .before .before .loop .at))
 
 loop-again : tie.Need-loop-again Inv-loop μ-loop
 loop-again c =
     let l = c .before .before .loop in
     let s = c .before .before .before .args .s .now in
-    omega (arith, c .shared-slice-known .given (l .i), sum-next s (l .i) (omega arith), running-next s (l .i) (omega arith))
+    omega (arith, c .shared-slice-known .given (l .at), sum-next s (l .at) (omega arith), running-next s (l .at) (omega arith))
 
 returns : tie.Need-returns Inv-loop μ-loop
 returns c =
     let s = c .before .before .args .s .now in
-    let e : c .before .loop .i ≡ length s = omega arith in
+    let e : c .before .loop .at ≡ length s = omega arith in
     rw (c .before .loop .inv .3, c .before .loop .inv .4, e, take-length)
 
 pub sums-spec : {M : Type 1} → statement M

@@ -1,8 +1,7 @@
 -- The table of a whole file, field by field. Assumes nothing.
-use mathlib.Core.Path.{_≡_, _∙_}
+
 use native.Mathlib.Omega.{arith}
 use borrow.Author.Needs.{needs}
-use lib.ListN.{length}
 use Rattle.rules.specs.File.{decode, setsAt, coresIn}
 use Rattle.file.specs.Places.{figuresIn}
 use Rattle.file.proofs.Runs.{sets-full, sets-filled}

@@ -4,7 +4,7 @@ use mathlib.Core.Bool.{true}
 use native.Mathlib.Omega.{arith}
 use borrow.Author.Needs.{needs}
 use borrow.Author.Tests.{eq-eqb, ne-eqb}
-use Prim.Native.Nat.{_+_, _≤_}
+use Prim.Native.Nat.{_+_, _-_, _≤_}
 use lib.ListN.{length}
 use Rattle.rules.specs.Refusals.{isAccepted}
 use Rattle.rules.specs.Operations.{checkView}
@@ -34,6 +34,12 @@ shared-slice-read-record-at-2 c =
     let a = e .before .before .before .before .args in
     omega (arith, viewed-length (a .file .now) (a .k) (passed e))
 
+sub-record-at : tie.Need-sub-record-at
+sub-record-at c =
+    let e = c .before .before .before in
+    let a = e .before .before .before .before .args in
+    omega (arith, c .size .ensures .0, viewed-task (a .file .now) (a .k) (passed e))
+
 record-at-requires : tie.Need-record-at-requires
 record-at-requires c κs =
     let e = c .before .before .before in
@@ -58,10 +64,11 @@ returns-2 c =
     let r = c .before in
     let e = r .before .before .before .before in
     let a = e .before .before .before .before .args in
-    part-record (a .file .now) (r .record-at .result) (a .k) (r .record-at .ensures .0 ∙ rw (r .before .size .ensures .0))
+    let back : r .before .size .result - 1 + 1 ≡ a .k = omega (arith, r .before .size .ensures .0, viewed-task (a .file .now) (a .k) (passed e)) in
+    part-record (a .file .now) (r .record-at .result) (a .k) (r .record-at .ensures .0 ∙ rw back)
     ∙ sym (view-record (a .file .now) (a .k) (passed e))
 
 pub view-spec : {M : Type 1} → statement M
 view-spec =
     tie.close
-    (tie.spec (λ c κs. search needs) (λ c. search needs) (λ c. search needs) (λ c. search needs) returns shared-slice-read-record-at shared-slice-read-record-at-2 (λ c κs. search needs) record-at-requires add-e (λ c. search needs) (λ c. search needs) part-result-end-2 returns-2)
+    (tie.spec (λ c κs. search needs) (λ c. search needs) (λ c. search needs) (λ c. search needs) returns shared-slice-read-record-at shared-slice-read-record-at-2 (λ c κs. search needs) sub-record-at record-at-requires add-e (λ c. search needs) (λ c. search needs) part-result-end-2 returns-2)

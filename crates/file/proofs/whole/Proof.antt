@@ -1,6 +1,5 @@
 -- Refusals 1 to 4 in their order. Assumes nothing.
-use mathlib.Core.Path.{_≡_, _∙_, sym}
-use native.Mathlib.Omega.{arith}
+use mathlib.Core.Path.{_∙_, sym}
 use borrow.Author.Needs.{needs}
 use Rattle.file.proofs.Checks.{too-short, wrong-length, right-length}
 use Rattle.file.proofs.whole.Statement.{statement}

@@ -30,7 +30,7 @@ returns : tie.Need-returns
 returns c =
     let k = c .before .before .before in
     let a = k .before .before .args in
-    rw (c .nothing .ensures, k .check .ensures)
+    rw (c .wrote-nothing .ensures, k .check .ensures)
     (table-refused (a .t) (a .out .now) (rw (k .check .ensures) at (ne-eqb _ _ (c .before .if1 .taken))))
 
 -- 5 to 11 were passed
@@ -55,7 +55,7 @@ returns-2 : tie.Need-returns-2
 returns-2 c =
     let f = c .before .before .before in
     let a = f .before .before .before .before .before .args in
-    rw (c .nothing2 .ensures, c .before .no-place .ensures)
+    rw (c .wrote-nothing2 .ensures, c .before .no-place .ensures)
     (no-room (a .t) (a .out .now) (passed (f .before)) (rw (encode-is f) at (c .before .before .if2 .taken)))
 
 put-body-requires : tie.Need-put-body-requires

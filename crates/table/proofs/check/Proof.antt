@@ -1,7 +1,7 @@
 -- 5 to 11 in their order. Assumes nothing.
 use mathlib.Core.Path.{sym, _∙_}
 use borrow.Author.Needs.{needs}
-use Rattle.table.proofs.Order.{counts-refuse, counts-pass, counts-inside}
+use Rattle.table.proofs.Counts.{counts-refuse, counts-pass, counts-inside}
 use Rattle.table.proofs.check.Statement.{statement}
 use Rattle.table.proofs.check.Tie as tie
 

@@ -1,6 +1,6 @@
 -- A set is empty, or is at least 2 to the number of partitions. Assumes nothing.
-use mathlib.Core.Path.{_≡_}
 use Prim.Native.Nat.{ℕ, _*_, _^_, _%_, _≤_, _<_}
+use mathlib.Core.Path.{_≡_}
 use native.Mathlib.Nat.{one-mul, mod-eq-of-lt, lt-of-le-of-lt}
 use lib.Pow.{pow-mono}
 use lib.Dec.{lit<}

@@ -7,22 +7,32 @@ use Rattle.timing.proofs.figures_of.Statement.{statement}
 use Rattle.timing.proofs.figures_of.Tie as tie
 
 in-time-requires : tie.Need-in-time-requires
-in-time-requires c κs = rw (c .crossing .ensures) (fits-in-time _ (c .before .before .pre) _ (omega (arith, crossing-high _ (c .before .before .pre))))
+in-time-requires c κs =
+    let sound = c .before .before .pre in
+    rw (c .crossing .ensures) (fits-in-time _ sound _ (omega (arith, crossing-high _ sound)))
 
 in-time-requires-2 : tie.Need-in-time-requires-2
-in-time-requires-2 c κs = rw (c .conf .ensures) (fits-in-time _ (c .before .before .before .before .pre) _ (omega (arith, conf-high _ (c .before .before .before .before .pre))))
+in-time-requires-2 c κs =
+    let sound = c .before .before .before .before .pre in
+    rw (c .conf .ensures) (fits-in-time _ sound _ (omega (arith, conf-high _ sound)))
 
 in-time-requires-3 : tie.Need-in-time-requires-3
-in-time-requires-3 c κs = rw (c .readwrite .ensures) (fits-in-time _ (c .before .before .before .before .before .before .pre) _ (omega (arith, readwrite-high _ (c .before .before .before .before .before .before .pre))))
+in-time-requires-3 c κs =
+    let sound = c .before .before .before .before .before .before .pre in
+    rw (c .readwrite .ensures) (fits-in-time _ sound _ (omega (arith, readwrite-high _ sound)))
 
 in-time-requires-4 : tie.Need-in-time-requires-4
-in-time-requires-4 c κs = rw (c .reopen .ensures) (fits-in-time _ (c .before .before .before .before .before .before .before .before .pre) _ (omega (arith, reopen-high _ (c .before .before .before .before .before .before .before .before .pre))))
+in-time-requires-4 c κs =
+    let sound = c .before .before .before .before .before .before .before .before .pre in
+    rw (c .reopen .ensures) (fits-in-time _ sound _ (omega (arith, reopen-high _ sound)))
 
 run-requires : tie.Need-run-requires
 run-requires c κs = omega (arith, window-high _ (c .before .before .before .before .before .before .before .before .before .pre))
 
 in-time-requires-5 : tie.Need-in-time-requires-5
-in-time-requires-5 c κs = rw (c .run .ensures, c .before .before .before .before .before .before .before .before .before .window .ensures) (fits-in-time _ (c .before .before .before .before .before .before .before .before .before .before .pre) _ (run-high _ (c .before .before .before .before .before .before .before .before .before .before .pre)))
+in-time-requires-5 c κs =
+    let at = c .before .before .before .before .before .before .before .before .before in
+    rw (c .run .ensures, at .window .ensures) (fits-in-time _ (at .before .pre) _ (run-high _ (at .before .pre)))
 
 returns : tie.Need-returns
 unfolding figuresOf

@@ -1,0 +1,30 @@
+-- `all_cases` is safe and ends: the turns that are left fall. Assumes nothing.
+use mathlib.Core.Path.{_≡_}
+use lib.ListN.{length}
+use borrow.Author.Needs.{needs}
+use Rattle.conform.proofs.all_cases.Statement.{statement}
+use Rattle.conform.proofs.all_cases.Tie as tie
+
+abbrev Inv-loop : tie.InvT-loop
+Inv-loop payload₀ out₀ turns₀ payload out turns = (length payload ≡ length payload₀) × (length out ≡ length out₀)
+
+abbrev μ-loop : tie.MeasureT-loop
+μ-loop payload₀ out₀ turns₀ payload out turns = turns
+
+pub all-cases-spec : {M : Type 1} → statement M
+all-cases-spec =
+    tie.close
+    (tie.spec
+    Inv-loop
+    μ-loop
+    (λ c. search needs)
+    (λ c κs. search needs)
+    (λ c. search needs)
+    (λ c. search needs)
+    (λ c. search needs)
+    (λ c. search needs)
+    (λ c. search needs)
+    (λ c. search needs)
+    (λ c. search needs)
+    (λ c. search needs)
+    (λ c. search needs))

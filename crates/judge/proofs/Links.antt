@@ -1,0 +1,138 @@
+-- The order of refusals of a judgement, link by link. Assumes nothing.
+use mathlib.Core.Path.{_≡_, refl, sym, ap, _∙_}
+use mathlib.Core.Bool.{Bool, true, false, cond, not}
+use mathlib.Core.List.{List}
+use Prim.Native.Nat.{ℕ, _-_, _≤_, _<_}
+use native.Mathlib.Omega.{arith}
+use lib.Dec.{leb}
+use lib.ListN.{getD}
+use borrow.Author.Tests.{eq-eqb, ne-eqb, lt-ltb, le-ltb, le-leb, lt-leb, ltb-false, not-false}
+use Rattle.rules.specs.declared.Table.{Table}
+use Rattle.rules.specs.declared.Refusal.{Refusal}
+use Rattle.rules.specs.declared.Answer.{Answer}
+use Rattle.rules.specs.declared.Judged.{Judged}
+use Rattle.rules.specs.declared.AllJudged.{AllJudged}
+use Rattle.rules.specs.Idioms.{within, entry}
+use Rattle.rules.specs.Tasks.{D, latest, noTask, taskOf}
+use Rattle.rules.specs.Judgement.{misses, judge}
+use Rattle.rules.specs.Sound.{Within, Sound}
+use Rattle.rules.specs.Refusals.{accepted, refused, isAccepted, _orElse_, given, checkTable, askedFault, lateStart, highStart, checkOne, checkAll}
+use Rattle.rules.specs.Operations.{judgeOne, judgeAll}
+use Rattle.rules.proofs.Chain.{both-accepted, first-refuses, second-decides, no-fault}
+use Rattle.rules.proofs.Accepted.{sound}
+use Rattle.rules.proofs.Tests.{inside}
+use Rattle.rounds.specs.declared.Climbed.{Climbed}
+use Rattle.rounds.specs.Numbered.{climbedFor, notJudged, noneJudged, firstLate, firstHigh, judgedTasks}
+use Rattle.judge.specs.Links.{checkStart}
+
+-- a refusal that a call gave: its number is 0, or is not
+pub passes : {r s : Refusal} → r ≡ s → r .number ≡ 0 → isAccepted s ≡ true
+passes {r} e h = rw e at (eq-eqb (r .number) 0 h)
+
+pub refuses : {r s : Refusal} → r ≡ s → (r .number ≡ 0 → ⊥) → isAccepted s ≡ false
+refuses {r} e h = rw e at (ne-eqb (r .number) 0 h)
+
+-- ---- one task: 5 to 13
+
+module _ (t : Table) (k start : ℕ) where
+  pub start-table : isAccepted (checkTable t) ≡ false → checkTable t ≡ checkStart t k start
+  unfolding checkStart
+  start-table h = simp h
+
+  module _ (table : isAccepted (checkTable t) ≡ true) where
+    start-asked : askedFault t k ≡ true → refused 12 0 ≡ checkStart t k start
+    unfolding checkStart
+    start-asked e = simp (table, e)
+
+    pub start-low : k ≡ 0 → refused 12 0 ≡ checkStart t k start
+    unfolding askedFault
+    start-low e = start-asked (rw (lt-leb 1 k (omega arith)))
+
+    pub start-high : t .tasks < k → refused 12 0 ≡ checkStart t k start
+    unfolding askedFault
+    start-high h = start-asked (rw (le-leb 1 k (omega arith), lt-leb k (t .tasks) h))
+
+    pub start-late : 1 ≤ k → k ≤ t .tasks → D (taskOf t k) < start → refused 13 k ≡ checkStart t k start
+    unfolding checkStart askedFault lateStart latest
+    start-late low high h = simp (table, le-leb 1 k low, le-leb k (t .tasks) high, lt-ltb (D (taskOf t k)) start h)
+
+    pub start-passes : 1 ≤ k → k ≤ t .tasks → start ≤ D (taskOf t k) → accepted ≡ checkStart t k start
+    unfolding checkStart askedFault lateStart latest
+    start-passes low high h = simp (table, le-leb 1 k low, le-leb k (t .tasks) high, le-ltb (D (taskOf t k)) start h)
+
+-- what passes has an accepted table, a task of it, and a start that is not late
+module _ (t : Table) (k start : ℕ) (passed : isAccepted (checkStart t k start) ≡ true) where
+  start-links : (isAccepted (checkTable t orElse given 12 0 (askedFault t k)) ≡ true) × (isAccepted (given 13 k (lateStart t k start)) ≡ true)
+  unfolding checkStart
+  start-links = both-accepted (checkTable t orElse given 12 0 (askedFault t k)) (given 13 k (lateStart t k start)) passed
+
+  first-links : (isAccepted (checkTable t) ≡ true) × (isAccepted (given 12 0 (askedFault t k)) ≡ true)
+  first-links = both-accepted (checkTable t) (given 12 0 (askedFault t k)) (start-links .0)
+
+  pub start-sound : Sound t
+  start-sound = sound t (first-links .0)
+
+  pub start-within : Within 1 (t .tasks) k
+  unfolding askedFault
+  start-within = inside 1 (t .tasks) k (not-false _ (no-fault 11 0 (askedFault t k) (first-links .1)))
+
+  pub start-fits : start ≤ D (taskOf t k)
+  unfolding lateStart latest
+  start-fits = ltb-false (D (taskOf t k)) start (no-fault 12 k (lateStart t k start) (start-links .1))
+
+-- ---- one task: 14, or the answer
+
+module _ (t : Table) (k start : ℕ) where
+  one-is : checkOne t k start ≡ checkStart t k start orElse given 14 k (highStart t k start)
+  unfolding checkOne checkStart
+  one-is = refl
+
+  one-refused : (r : Refusal) → isAccepted r ≡ false → checkOne t k start ≡ r → notJudged r ≡ judgeOne t k start
+  unfolding judgeOne notJudged
+  one-refused r h e = rw (e, h)
+
+  pub one-start : isAccepted (checkStart t k start) ≡ false → notJudged (checkStart t k start) ≡ judgeOne t k start
+  one-start h = one-refused (checkStart t k start) h (one-is ∙ first-refuses (checkStart t k start) (given 14 k (highStart t k start)) h)
+
+  module _ (passed : isAccepted (checkStart t k start) ≡ true) {r : Climbed} (is : r ≡ climbedFor t k start) where
+    high-is : r .high ≡ highStart t k start
+    unfolding climbedFor
+    high-is = ap (λ (r : Climbed). r .high) is
+
+    high-decides : checkOne t k start ≡ given 14 k (r .high)
+    high-decides = rw high-is (one-is ∙ second-decides (checkStart t k start) (given 14 k (highStart t k start)) passed)
+
+    pub one-high : r .high ≡ true → notJudged (refused 14 k) ≡ judgeOne t k start
+    one-high h = one-refused (refused 14 k) refl (rw h at high-decides)
+
+    answer-is : r .high ≡ false → r .answer ≡ judge t k start
+    unfolding climbedFor
+    answer-is h =
+        let e : r .answer ≡ cond (highStart t k start) (misses 0) (judge t k start) = ap (λ (r : Climbed). r .answer) is in
+        rw (← high-is, h) at e
+
+    pub one-answer : r .high ≡ false → _≡_ {A = Judged} (record { refusal = accepted; answer = r .answer }) (judgeOne t k start)
+    unfolding judgeOne
+    one-answer h = let e : checkOne t k start ≡ accepted = rw h at high-decides in rw (e, answer-is h)
+
+-- ---- all tasks
+
+module _ (t : Table) (starts : List ℕ) where
+  all-is : checkAll t (entry 0 starts) ≡ checkTable t orElse firstLate t starts orElse firstHigh t starts
+  unfolding checkAll firstLate firstHigh
+  all-is = refl
+
+  all-refused : (r : Refusal) → isAccepted r ≡ false → checkAll t (entry 0 starts) ≡ r → noneJudged r ≡ judgeAll t starts
+  unfolding judgeAll noneJudged
+  all-refused r h e = rw (e, h)
+
+  pub all-table : isAccepted (checkTable t) ≡ false → noneJudged (checkTable t) ≡ judgeAll t starts
+  all-table h = all-refused (checkTable t) h (all-is ∙ simp h)
+
+  module _ (table : isAccepted (checkTable t) ≡ true) where
+    pub all-late : isAccepted (firstLate t starts) ≡ false → noneJudged (firstLate t starts) ≡ judgeAll t starts
+    all-late h = all-refused (firstLate t starts) h (all-is ∙ simp (table, h))
+
+    pub all-tasks : isAccepted (firstLate t starts) ≡ true → judgedTasks t starts ≡ judgeAll t starts
+    unfolding judgedTasks judgeAll
+    all-tasks h = let e : checkAll t (entry 0 starts) ≡ firstHigh t starts = all-is ∙ simp (table, h) in rw e

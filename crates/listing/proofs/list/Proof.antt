@@ -1,0 +1,34 @@
+-- `list` meets its contract: what reading and judging give is what the listing is made of. Assumes nothing.
+use native.Mathlib.Omega.{arith}
+use borrow.Author.Needs.{needs}
+use Rattle.listing.proofs.Listed.{listed-refused, listed-table}
+use Rattle.listing.proofs.list.Statement.{statement}
+use Rattle.listing.proofs.list.Tie as tie
+
+returns : tie.Need-returns
+returns c =
+    let line = c .before .before in
+    let test = line .before .before in
+    let listed = listed-refused _ _ (test .before .before .before .read .ensures) (test .if1 .taken) in
+    (rw listed (line .refused .ensures .0), rw listed (omega (arith, line .refused .ensures .1)))
+
+returns-2 : tie.Need-returns-2
+returns-2 c =
+    let all = c .before .before in
+    let judged = all .before .before .before in
+    let test = judged .before .before in
+    let listed = listed-table _ _ (test .before .before .before .read .ensures) _ (judged .judge-all .ensures) (test .if1 .left) in
+    (rw listed (all .lines .ensures .0), rw listed (all .lines .ensures .1))
+
+pub list-spec : {M : Type 1} → statement M
+list-spec =
+    tie.close
+    (tie.spec
+    (λ c κs. search needs)
+    (λ c κs. search needs)
+    (λ c. search needs)
+    returns
+    (λ c κs. search needs)
+    (λ c κs. search needs)
+    (λ c. search needs)
+    returns-2)

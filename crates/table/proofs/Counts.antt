@@ -1,0 +1,31 @@
+-- Counts within their limits: what refusal 5 decides, and what it leaves to 6 to 11. Assumes nothing.
+use Prim.Native.Nat.{_≤_}
+use mathlib.Core.Path.{_≡_}
+use mathlib.Core.Bool.{true, false, _&&_}
+use lib.Dec.{eqb}
+use borrow.Author.Tests.{not-false}
+use Rattle.rules.specs.declared.Table.{Table}
+use Rattle.rules.specs.Idioms.{within}
+use Rattle.rules.specs.Refusals.{refused, fourthAllowed, countsFault, checkBoard, checkTable}
+use Rattle.rules.proofs.Tests.{and-both, inside}
+use Rattle.table.specs.Faults.{figuresChecked}
+
+module _ (t : Table) where
+  pub counts-refuse : countsFault t ≡ true → refused 5 0 ≡ checkTable t
+  unfolding checkTable checkBoard
+  counts-refuse e = simp e
+
+  pub counts-pass : countsFault t ≡ false → figuresChecked t ≡ checkTable t
+  unfolding checkTable checkBoard figuresChecked
+  counts-pass e = simp e
+
+  counts-hold : countsFault t ≡ false → within 1 8 (t .cores) && within 1 16 (t .partitions) && within 1 32 (t .tasks) && eqb (t .fourth) 0 ≡ true
+  unfolding countsFault fourthAllowed
+  counts-hold e = not-false _ e
+
+  pub counts-inside : countsFault t ≡ false → (t .cores ≤ 8) × (t .partitions ≤ 16) × (t .tasks ≤ 32)
+  counts-inside e =
+      let (rest, fourth) = and-both _ _ (counts-hold e) in
+      let (front, tasks) = and-both _ _ rest in
+      let (cores, partitions) = and-both _ _ front in
+      (inside _ _ _ cores .high, inside _ _ _ partitions .high, inside _ _ _ tasks .high)
