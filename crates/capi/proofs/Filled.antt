@@ -1,0 +1,31 @@
+-- A list's members in n places, with the default in the others. Assumes nothing.
+use mathlib.Core.Path.{_≡_, refl, _∙_}
+use mathlib.Core.List.{List, [], _∷_, _++_, map}
+use Prim.Native.Nat.{ℕ, zero, suc, _+_, _-_, _≤_, _<_}
+use native.Mathlib.Omega.{arith}
+use native.Mathlib.Numerals.{add-one}
+use lib.ListN.{length, length-map, take, getD, set, replicate}
+use lib.Seq.{length-take-le, take-at, take-suc, getD-take}
+use Rattle.rules.specs.Idioms.{entry, filled, upTo}
+use Rattle.rules.proofs.Fill.{fill-step}
+use Rattle.file.proofs.Runs.{length-from}
+
+-- one member more
+pub filled-next : {A : Type 0} (n : ℕ) (d : A) (l : List A) (i : ℕ) → i < n → i < length l → set (filled n d (take i l)) i (getD l i d) ≡ filled n d (take (i + 1) l)
+filled-next n d l i h g = rw (fill-step n d (take i l) i (getD l i d) (length-take-le i l (omega arith)) h, add-one i, take-suc l i d g)
+
+-- beyond the end stands the default, whether it is there or not
+pad-default : {A : Type 0} (l : List A) (n i : ℕ) (d : A) → getD (l ++ replicate n d) i d ≡ getD l i d
+pad-default [] zero i d = refl
+pad-default [] (suc n) zero d = refl
+pad-default [] (suc n) (suc i) d = pad-default [] n i d
+pad-default (x ∷ xs) n zero d = refl
+pad-default (x ∷ xs) n (suc i) d = pad-default xs n i d
+
+pub filled-entry : {A : Type 0} (n : ℕ) (d : A) (l : List A) (k : ℕ) → 1 ≤ k → k ≤ n → entry d (filled n d (take n l)) k ≡ entry d l k
+filled-entry n d l k low high =
+    pad-default (take n l) (n - length (take n l)) (k - 1) d ∙ getD-take n l (k - 1) d (omega arith)
+
+-- what is filled in for the numbers 1 to m are the first m places
+pub take-filled : {A : Type 0} (n : ℕ) (d : A) (f : ℕ → A) (m : ℕ) → take m (filled n d (map f (upTo m))) ≡ map f (upTo m)
+take-filled n d f m = take-at (map f (upTo m)) _ m (length-map (upTo m) f ∙ length-from 1 m)

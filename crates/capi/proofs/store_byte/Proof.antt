@@ -1,0 +1,12 @@
+-- `store_byte` meets its contract. Assumes nothing.
+use borrow.Author.Needs.{needs}
+use mathlib.Core.Path.{sym}
+use lib.Seq.{set-out}
+use Rattle.capi.proofs.store_byte.Statement.{statement}
+use Rattle.capi.proofs.store_byte.Tie as tie
+
+returns-2 : tie.Need-returns-2
+returns-2 c = sym (set-out _ _ _ (c .if1 .left))
+
+pub store-byte-spec : {M : Type 1} → statement M
+store-byte-spec = tie.close (tie.spec (λ c. search needs) (λ c. search needs) (λ c. search needs) returns-2)

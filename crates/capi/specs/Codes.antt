@@ -1,0 +1,23 @@
+-- Refusals and verdicts as numbers. Assumes nothing.
+use mathlib.Core.Bool.{cond}
+use Prim.Native.Nat.{ℕ, _+_, _*_}
+use Rattle.rules.specs.declared.Refusal.{Refusal}
+use Rattle.rules.specs.declared.Delay.{Delay}
+use Rattle.rules.specs.declared.Delay.the-variants.{Request, Job}
+use Rattle.rules.specs.declared.Verdict.{Verdict}
+use Rattle.rules.specs.declared.Verdict.the-variants.{Holds, Misses}
+use Rattle.rules.specs.Refusals.{isAccepted}
+
+-- "A refusal is a number from 1 to 14 plus 256 times its place"; 0 where nothing is refused
+abbrev pub codeOf : Refusal → ℕ
+codeOf r = cond (isAccepted r) 0 (r .number + 256 * r .place)
+
+-- "1 where it holds by the request delay, 2 where it holds by the job delay"
+abbrev pub delayNumber : Delay → ℕ
+delayNumber Request = 1
+delayNumber Job = 2
+
+-- "0 where the task misses"
+abbrev pub byNumber : Verdict → ℕ
+byNumber Misses = 0
+byNumber (Holds bound by) = delayNumber by

@@ -1,0 +1,11 @@
+-- Where a task's record starts. Assumes nothing.
+use mathlib.Core.Bool.{cond}
+use mathlib.Core.List.{List}
+use Prim.Native.Nat.{ℕ}
+use Rattle.rules.specs.Refusals.{isAccepted}
+use Rattle.rules.specs.File.{coresIn, formIn, recordAt}
+use Rattle.rules.specs.Operations.{checkView}
+
+-- "Returns the offset r of its 29 bytes"; "Returns 0, which is the offset of no record, where the file is refused .. or has no such task"
+unfoldable pub recordPlace : List ℕ → ℕ → ℕ
+recordPlace s task = cond (isAccepted (checkView s task)) (recordAt (formIn s) (coresIn s) task) 0
