@@ -16,6 +16,7 @@
 --     Refused    what a refused operation gives
 --     Point2     what a verdict says
 --     Point3     a newer table judged from the older one's bounds
+--     Exact      every promise allows one result
 pub mod ByteLists
 pub mod ByteSums
 pub mod Rows
@@ -32,3 +33,4 @@ pub mod Files
 pub mod Refused
 pub mod Point2
 pub mod Point3
+pub mod Exact
