@@ -15,6 +15,9 @@ only-one rule a b p q = p ∙ sym q
 both : {A B : Type 0} {a c : A} {b d : B} → a ≡ c → b ≡ d → _≡_ {A = A × B} (a, b) (c, d)
 both p q = cc
 
+all-four : {n m : ℕ} {a b c d e f : List ℕ} → n ≡ m → a ≡ b → c ≡ d → e ≡ f → _≡_ {A = ℕ × List ℕ × List ℕ × List ℕ} (n, a, c, e) (m, b, d, f)
+all-four p q r s = cc
+
 -- a text in a lent buffer
 given : (text out : List ℕ) → Exact (λ (r : ℕ × List ℕ). Given text out (r .0) (r .1))
 given text out a b p q = both (p .length-is ∙ sym (q .length-is)) (p .bytes-are ∙ sym (q .bytes-are))
@@ -34,7 +37,7 @@ promises = record {
   list = λ s out. given _ out;
   lines = λ t answers out. given _ out;
   ryb-read = λ s. only-one _;
-  ryb-judge = λ s starts bounds rounds by a b p q. let (result, bounds-same, rounds-same, by-same) = judged-once p q in both result (both bounds-same (both rounds-same by-same));
+  ryb-judge = λ s starts bounds rounds by a b p q. let (result, bounds-same, rounds-same, by-same) = judged-once p q in all-four result bounds-same rounds-same by-same;
   ryb-list = λ s out. given _ out;
   ryb-record = λ s k. only-one _;
 }
