@@ -10,11 +10,11 @@ use borrow.Author.Tests.{eq-eqb}
 use lib.Dec.{eqb}
 use lib.ListN.{length}
 use Rattle.rules.specs.declared.Table.{Table}
-use Rattle.rules.specs.Idioms.{sumOver, those, isEmpty, from, upTo}
+use Rattle.laws.specs.Idioms.{sumOver, those, isEmpty, from, upTo}
 use Rattle.rules.specs.Cores.{share, setOf, isNear, isFar, near, far}
 use Rattle.rules.specs.Sound.{Sound}
 use Rattle.rules.specs.Dram.{crossing, conflict, RD}
-use Rattle.rules.proofs.Weights.{weight}
+use Rattle.rules.specs.Board.{weight}
 use Rattle.timing.specs.Figures.{figuresOf, FiguresBounded}
 use Rattle.timing.proofs.Bounds.{bounded}
 use Rattle.board.specs.Masks.{asBit}

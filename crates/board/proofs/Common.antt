@@ -8,7 +8,7 @@ use native.Mathlib.Omega.{arith}
 use borrow.Author.Tests.{ne-eqb}
 use lib.Dec.{eqb}
 use lib.Bits.{bitAnd, and-step}
-use Rattle.rules.specs.Idioms.{some, from}
+use Rattle.laws.specs.Idioms.{some, from}
 use Rattle.rules.specs.Cores.{bit, share}
 
 even : (m : ℕ) → eqb (m * 2 + 0) 0 ≡ eqb m 0

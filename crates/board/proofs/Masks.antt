@@ -11,7 +11,7 @@ use lib.Pow.{pow-mono}
 use lib.Bits.{bitAnd, and-step}
 use lib.Count.{ones, ones-step}
 use lib.ListN.{length}
-use Rattle.rules.specs.Idioms.{those, isEmpty, from}
+use Rattle.laws.specs.Idioms.{those, isEmpty, from}
 use Rattle.board.specs.Masks.{asBit, maskFrom}
 
 -- ---- one bit more, below the others

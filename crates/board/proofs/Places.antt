@@ -5,9 +5,9 @@ use Prim.Native.Nat.{ℕ, zero, suc, _+_, _-_, _≤_, _<_}
 use native.Mathlib.Nat.{add-zero}
 use native.Mathlib.Omega.{arith}
 use lib.ListN.{length, length-map, getD, set, List·getD-append}
-use Rattle.rules.specs.Idioms.{from, upTo, entry, filled}
-use Rattle.rules.proofs.Fill.{fill-step}
-use Rattle.rules.proofs.Sums.{upTo-next}
+use Rattle.laws.specs.Idioms.{from, upTo, entry, filled}
+use Rattle.laws.proofs.Fill.{fill-step}
+use Rattle.laws.proofs.Sums.{upTo-next}
 
 pub from-length : (n a : ℕ) → length (from a n) ≡ n
 unfolding from

@@ -10,11 +10,12 @@ use lib.Count.{ones}
 use lib.Dec.{eqb}
 use lib.ListN.{length, replicate, set}
 use Rattle.rules.specs.declared.Table.{Table}
-use Rattle.rules.specs.Idioms.{sumOver, isEmpty, from, upTo, entry, filled}
 use Rattle.rules.specs.Cores.{isNear, isFar, near, far}
 use Rattle.rules.specs.Dram.{conflict, inter, intra, RD}
-use Rattle.rules.proofs.Sums.{sum-append, upTo-next}
-use Rattle.rules.proofs.Weights.{weight, by-weights}
+use Rattle.laws.specs.Idioms.{sumOver, isEmpty, from, upTo, entry, filled}
+use Rattle.laws.proofs.Sums.{sum-append, upTo-next}
+use Rattle.rules.specs.Board.{weight}
+use Rattle.rules.proofs.Weights.{by-weights}
 use Rattle.timing.specs.declared.Figures.{Figures}
 use Rattle.timing.specs.Figures.{figuresOf, FiguresBounded}
 use Rattle.board.specs.declared.CoreCosts.{CoreCosts}

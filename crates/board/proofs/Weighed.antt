@@ -12,12 +12,12 @@ use lib.Count.{ones}
 use lib.Dec.{eqb}
 use lib.ListN.{length}
 use Rattle.rules.specs.declared.Table.{Table}
-use Rattle.rules.specs.Idioms.{sumOver, those, some, upTo, below, entry}
+use Rattle.laws.specs.Idioms.{sumOver, those, some, upTo, below, entry}
 use Rattle.rules.specs.Timing.{Row}
 use Rattle.rules.specs.Cores.{bit, share, setOf, isNear, isFar, near}
 use Rattle.rules.specs.Sound.{SoundRow}
 use Rattle.rules.specs.Dram.{crossing, conflict}
-use Rattle.rules.proofs.Weights.{weight}
+use Rattle.rules.specs.Board.{weight}
 use Rattle.timing.specs.declared.Figures.{Figures}
 use Rattle.timing.specs.Figures.{figuresOf, FiguresBounded}
 use Rattle.timing.proofs.Bounds.{bounded}

@@ -6,12 +6,12 @@ use mathlib.Core.Bool.{cond}
 use mathlib.Core.List.{List, map}
 use lib.ListN.{length, replicate}
 use Rattle.rules.specs.declared.Table.{Table}
-use Rattle.rules.specs.Idioms.{isEmpty, upTo, filled}
+use Rattle.laws.specs.Idioms.{isEmpty, upTo, filled}
 use Rattle.rules.specs.Units.{inTime}
 use Rattle.rules.specs.Delays.{readwrite, reopen, run, window}
 use Rattle.rules.specs.Cores.{isNear, near, far}
 use Rattle.rules.specs.Dram.{RD}
-use Rattle.rules.proofs.Weights.{weight}
+use Rattle.rules.specs.Board.{weight}
 use Rattle.timing.specs.declared.Figures.{Figures}
 use Rattle.timing.specs.Figures.{figuresOf}
 use Rattle.board.specs.declared.CoreCosts.{CoreCosts}

@@ -3,7 +3,7 @@ use Prim.Native.Nat.{ℕ, zero, suc, _+_, _*_}
 use mathlib.Core.Bool.{Bool, true, false, cond, not, _&&_}
 use mathlib.Core.List.{List, map}
 use lib.Dec.{eqb}
-use Rattle.rules.specs.Idioms.{upTo, entry, filled}
+use Rattle.laws.specs.Idioms.{upTo, entry, filled}
 use Rattle.rules.specs.Cores.{share}
 
 abbrev pub asBit : Bool → ℕ

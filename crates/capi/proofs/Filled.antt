@@ -6,8 +6,8 @@ use native.Mathlib.Omega.{arith}
 use native.Mathlib.Numerals.{add-one}
 use lib.ListN.{length, length-map, take, getD, set, replicate}
 use lib.Seq.{length-take-le, take-at, take-suc, getD-take}
-use Rattle.rules.specs.Idioms.{entry, filled, upTo}
-use Rattle.rules.proofs.Fill.{fill-step}
+use Rattle.laws.specs.Idioms.{entry, filled, upTo}
+use Rattle.laws.proofs.Fill.{fill-step}
 use Rattle.file.proofs.Runs.{length-from}
 
 -- one member more

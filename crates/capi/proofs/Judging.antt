@@ -5,9 +5,10 @@ use mathlib.Core.List.{List}
 use Prim.Native.Nat.{ℕ, _≤_}
 use lib.ListN.{take}
 use borrow.Author.Tests.{eq-eqb, ne-eqb}
-use Rattle.rules.specs.Idioms.{entry, filled}
+use Rattle.laws.specs.Idioms.{entry, filled}
 use Rattle.rules.specs.Judgement.{judge, misses}
-use Rattle.rules.specs.Refusals.{isAccepted, checkTable}
+use Rattle.rules.specs.Chain.{isAccepted}
+use Rattle.rules.specs.Refusals.{checkTable}
 use Rattle.rules.specs.File.{tasksIn, checkWhole, decode}
 use Rattle.rules.specs.Operations.{checkFile, reading, answersFrom, judgeAll}
 use Rattle.rules.proofs.Accepted.{sound}

@@ -8,7 +8,7 @@ use native.Mathlib.Omega.{arith}
 use lib.ListN.{length}
 use borrow.Author.Tests.{eqb-false, ne-eqb}
 use Rattle.rules.specs.declared.Refusal.{Refusal}
-use Rattle.rules.specs.Refusals.{isAccepted}
+use Rattle.rules.specs.Chain.{isAccepted}
 use Rattle.rules.specs.Listing.{tableLines, listing}
 use Rattle.rules.specs.Operations.{reading, checkView}
 use Rattle.capi.specs.Codes.{codeOf}

@@ -6,11 +6,12 @@ use Prim.Native.Nat.{ℕ, zero, suc, _+_, _≤_, _<_}
 use native.Mathlib.Omega.{arith}
 use lib.ListN.{take}
 use Rattle.rules.specs.declared.Table.{Table}
-use Rattle.rules.specs.Idioms.{entry, filled, upTo}
 use Rattle.rules.specs.Judgement.{judge}
-use Rattle.rules.specs.Refusals.{firstFrom, first, lateStart, highStart, checkAll}
+use Rattle.rules.specs.Chain.{firstFrom, first}
+use Rattle.rules.specs.Refusals.{lateStart, highStart, checkAll}
 use Rattle.rules.specs.Operations.{answersFrom, judgeAll}
-use Rattle.rules.proofs.Members.{member-upTo, map-same}
+use Rattle.laws.specs.Idioms.{entry, filled, upTo}
+use Rattle.laws.proofs.Members.{member-upTo, map-same}
 use Rattle.capi.proofs.Filled.{filled-entry}
 
 -- the first place at fault, by two tests that agree

@@ -6,7 +6,7 @@ use Rattle.rules.specs.declared.Delay.{Delay}
 use Rattle.rules.specs.declared.Delay.the-variants.{Request, Job}
 use Rattle.rules.specs.declared.Verdict.{Verdict}
 use Rattle.rules.specs.declared.Verdict.the-variants.{Holds, Misses}
-use Rattle.rules.specs.Refusals.{isAccepted}
+use Rattle.rules.specs.Chain.{isAccepted}
 
 -- "A refusal is a number from 1 to 14 plus 256 times its place"; 0 where nothing is refused
 abbrev pub codeOf : Refusal → ℕ

@@ -6,9 +6,10 @@ use Prim.Native.Nat.{ℕ}
 use lib.ListN.{length, take, drop}
 use Rattle.rules.specs.declared.Refusal.{Refusal}
 use Rattle.rules.specs.declared.Answer.{Answer}
-use Rattle.rules.specs.Idioms.{upTo, entry}
+use Rattle.laws.specs.Idioms.{upTo, entry}
 use Rattle.rules.specs.Judgement.{judge, boundOf}
-use Rattle.rules.specs.Refusals.{_orElse_, isAccepted, checkAll}
+use Rattle.rules.specs.Chain.{_orElse_, isAccepted}
+use Rattle.rules.specs.Refusals.{checkAll}
 use Rattle.rules.specs.File.{tasksIn, decode}
 use Rattle.rules.specs.Operations.{checkFile}
 use Rattle.capi.specs.Codes.{codeOf, byNumber}

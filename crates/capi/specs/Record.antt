@@ -2,7 +2,7 @@
 use mathlib.Core.Bool.{cond}
 use mathlib.Core.List.{List}
 use Prim.Native.Nat.{ℕ}
-use Rattle.rules.specs.Refusals.{isAccepted}
+use Rattle.rules.specs.Chain.{isAccepted}
 use Rattle.rules.specs.File.{coresIn, formIn, recordAt}
 use Rattle.rules.specs.Operations.{checkView}
 

@@ -6,7 +6,7 @@ use rules::Verdict;
 ghost use mathlib.Core.Path.{_≡_};
 ghost use Prim.Native.Nat.{_+_, _*_, _-_, _≤_};
 ghost use lib.ListN.{set, take};
-ghost use Rattle.rules.specs.Idioms.{filled};
+ghost use Rattle.laws.specs.Idioms.{filled};
 ghost use Rattle.rules.specs.Judgement.{boundOf};
 ghost use Rattle.rules.specs.Operations.{checkFile};
 ghost use Rattle.rules.specs.Listing.{listing};

@@ -6,8 +6,9 @@ use Prim.Native.Nat.{ℕ, zero, suc, _+_, _≤_, _<_}
 use native.Mathlib.Omega.{arith}
 use lib.ListN.{length, take, drop, set, length-drop}
 use lib.Seq.{length-take-le, take-add, drop-drop}
-use Rattle.rules.specs.Idioms.{joined, number, bytes, part}
-use Rattle.rules.proofs.Bytes.{Bytes, none, more, bytes-number}
+use Rattle.laws.specs.Idioms.{joined, number, bytes, part}
+use Rattle.laws.specs.Bytes.{Bytes, none, more}
+use Rattle.laws.proofs.Bytes.{bytes-number}
 
 pub bytes-append : {l m : List ℕ} → Bytes l → Bytes m → Bytes (l ++ m)
 bytes-append none b = b

@@ -6,7 +6,7 @@ use Prim.Native.Nat.{ℕ, zero, suc, _+_, _*_, _^_, _≤_, _<_}
 use native.Mathlib.Omega.{arith}
 use lib.ListN.{length, getD, set}
 use Rattle.rules.specs.File.{sumOf, runningFrom, runningSum}
-use Rattle.rules.proofs.Bytes.{Bytes, none, more}
+use Rattle.laws.specs.Bytes.{Bytes, none, more}
 
 pub sum-set : (l : List ℕ) (i b : ℕ) → i < length l → sumOf (set l i b) + getD l i 0 ≡ sumOf l + b
 sum-set [] i b h = absurd (omega arith)

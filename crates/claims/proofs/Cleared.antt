@@ -10,10 +10,11 @@ use lib.Seq.{length-take-le, getD-take}
 use Rattle.rules.specs.declared.Refusal.{Refusal}
 use Rattle.rules.specs.declared.Task.{Task}
 use Rattle.rules.specs.declared.Table.{Table}
-use Rattle.rules.specs.Idioms.{entry, filled, within}
+use Rattle.laws.specs.Idioms.{entry, filled, within}
 use Rattle.rules.specs.Tasks.{noTask, taskOf}
 use Rattle.rules.specs.Cores.{setOf}
-use Rattle.rules.specs.Refusals.{_orElse_, given, firstFrom, first, countsFault, checkTiming, setFault, coreFault, timeFault, requestFault, checkBoard, checkTasks, checkTable}
+use Rattle.rules.specs.Chain.{_orElse_, given, firstFrom, first}
+use Rattle.rules.specs.Refusals.{countsFault, checkTiming, setFault, coreFault, timeFault, requestFault, checkBoard, checkTasks, checkTable}
 use Rattle.rules.proofs.Accepted.{sound}
 use Rattle.claims.specs.Files.{AcceptedTable, Shape, cleared}
 

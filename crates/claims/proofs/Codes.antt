@@ -6,11 +6,12 @@ use native.Mathlib.Omega.{arith}
 use lib.ListN.{length}
 use lib.Seq.{take-all}
 use Rattle.rules.specs.declared.Task.{Task}
-use Rattle.rules.specs.Idioms.{number, bytes, part}
 use Rattle.rules.specs.Units.{ps}
 use Rattle.rules.specs.Tasks.{C, T, D, H}
 use Rattle.rules.specs.File.{recordSize, recordBytes, recordTask}
-use Rattle.rules.proofs.Bytes.{Bytes, bytes-length, bytes-are, number-bytes}
+use Rattle.laws.specs.Idioms.{number, bytes, part}
+use Rattle.laws.specs.Bytes.{Bytes}
+use Rattle.laws.proofs.Bytes.{bytes-length, bytes-are, number-bytes}
 use Rattle.claims.proofs.ByteLists.{bytes-append, known-by-number, part-join, part-known}
 use Rattle.claims.proofs.Rows.{Code}
 

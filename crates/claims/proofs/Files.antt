@@ -7,10 +7,11 @@ use lib.ListN.{length, take, drop, set}
 use lib.Seq.{take-append-seam, drop-append-seam}
 use borrow.Author.Tests.{le-ltb}
 use Rattle.rules.specs.declared.Table.{Table}
-use Rattle.rules.specs.Refusals.{accepted, isAccepted, checkTable}
+use Rattle.rules.specs.Chain.{accepted, isAccepted}
+use Rattle.rules.specs.Refusals.{checkTable}
 use Rattle.rules.specs.File.{encode, decode, checkWhole}
 use Rattle.rules.specs.Operations.{emptyTable, checkFile, reading, checkWrite, writing, outAfter}
-use Rattle.rules.proofs.Bytes.{Bytes}
+use Rattle.laws.specs.Bytes.{Bytes}
 use Rattle.rules.proofs.EveryRule.{every-rule}
 use Rattle.rules.proofs.Chain.{both-accepted}
 use Rattle.claims.specs.Files.{AcceptedFile, AcceptedTable, Damage, Shape, cleared, Return, ReturnInPlace, OneToOne, NotEmpty}

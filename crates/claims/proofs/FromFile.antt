@@ -6,11 +6,11 @@ use native.Mathlib.Omega.{arith}
 use lib.ListN.{length, take, replicate, length-append, length-replicate, length-map}
 use lib.Seq.{take-at}
 use Rattle.rules.specs.declared.Task.{Task}
-use Rattle.rules.specs.Idioms.{from, filled, number, part}
 use Rattle.rules.specs.Tasks.{noTask}
 use Rattle.rules.specs.File.{setsAt, recordsAt, recordSize, recordTask, body, encode, coresIn, partitionsIn, tasksIn, formIn, recordIn, decode}
 use Rattle.rules.proofs.Accepted.{sound}
-use Rattle.rules.proofs.Bytes.{Bytes}
+use Rattle.laws.specs.Idioms.{from, filled, number, part}
+use Rattle.laws.specs.Bytes.{Bytes}
 use Rattle.claims.specs.Files.{AcceptedTable, Shape, cleared}
 use Rattle.claims.proofs.Rows.{written-back}
 use Rattle.claims.proofs.Codes.{number-code, task-code}

@@ -6,11 +6,12 @@ use native.Mathlib.Omega.{arith}
 use lib.ListN.{length, take, drop, length-append}
 use lib.Seq.{take-all, drop-at, drop-drop}
 use Rattle.rules.specs.declared.Table.{Table}
-use Rattle.rules.specs.Idioms.{below, upTo, filled, number, bytes, part}
 use Rattle.rules.specs.Tasks.{noTask, tasksOf}
 use Rattle.rules.specs.File.{setsAt, recordsAt, recordSize, recordAt, fileLength, recordBytes, recordTask, trailer, body, encode, recordIn, decode}
 use Rattle.rules.proofs.Accepted.{sound}
-use Rattle.rules.proofs.Bytes.{Bytes, none, more, bytes-are, number-bytes}
+use Rattle.laws.specs.Idioms.{below, upTo, filled, number, bytes, part}
+use Rattle.laws.specs.Bytes.{Bytes, none, more}
+use Rattle.laws.proofs.Bytes.{bytes-are, number-bytes}
 use Rattle.claims.specs.Files.{AcceptedTable, Shape, cleared}
 use Rattle.claims.proofs.ByteLists.{bytes-append, bytes-joined}
 use Rattle.claims.proofs.Rows.{written-length, read-back}

@@ -5,7 +5,8 @@ use Prim.Native.Nat.{ℕ, suc}
 use Rattle.rules.specs.declared.Refusal.{Refusal}
 use Rattle.rules.specs.declared.Table.{Table}
 use Rattle.rules.specs.Tasks.{taskOf}
-use Rattle.rules.specs.Refusals.{accepted, isAccepted, _orElse_, given, first, countsFault, figureFault, relationFault, checkTiming, setFault, coreFault, timeFault, requestFault, checkBoard, checkTasks, checkTable}
+use Rattle.rules.specs.Chain.{accepted, isAccepted, _orElse_, given, first}
+use Rattle.rules.specs.Refusals.{countsFault, figureFault, relationFault, checkTiming, setFault, coreFault, timeFault, requestFault, checkBoard, checkTasks, checkTable}
 use Rattle.rules.proofs.Chain.{both-accepted, second-decides, no-fault}
 use Rattle.rules.proofs.First.{none-first, first-none}
 

@@ -6,7 +6,7 @@ use native.Mathlib.Omega.{arith}
 use lib.ListN.{take}
 use lib.Seq.{take-add}
 use Rattle.rules.specs.declared.Table.{Table}
-use Rattle.rules.specs.Idioms.{joined, bytes, part}
+use Rattle.laws.specs.Idioms.{joined, bytes, part}
 use Rattle.rules.specs.Tasks.{tasksOf}
 use Rattle.rules.specs.File.{setsAt, recordsAt, recordSize, recordAt, fileLength, recordBytes, trailer, body, encode}
 use Rattle.claims.proofs.Rows.{Ladder}

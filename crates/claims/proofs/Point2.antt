@@ -18,7 +18,8 @@ use Rattle.rules.specs.Tasks.{D, latest, taskOf, coreOf, higher}
 use Rattle.rules.specs.Board.{memoryOf}
 use Rattle.rules.specs.Response.{F, request, job, decided, decider}
 use Rattle.rules.specs.Judgement.{startOf, withDelay, roundsOf, judge, boundOf}
-use Rattle.rules.specs.Refusals.{isAccepted, checkOne}
+use Rattle.rules.specs.Chain.{isAccepted}
+use Rattle.rules.specs.Refusals.{checkOne}
 use Rattle.rules.proofs.Starts.{one-judgeable}
 use Rattle.rules.proofs.Points.{fresh-right, start-right}
 use Rattle.claims.specs.Point2.{AcceptedTask, Smallest, Decided, Right, PointTwo}

@@ -9,7 +9,8 @@ use Rattle.rules.specs.Tasks.{releases, latest, taskOf}
 use Rattle.rules.specs.Others.{countsOf}
 use Rattle.rules.specs.Response.{F}
 use Rattle.rules.specs.Judgement.{lowest, roundsOf, judge}
-use Rattle.rules.specs.Refusals.{isAccepted, checkOne}
+use Rattle.rules.specs.Chain.{isAccepted}
+use Rattle.rules.specs.Refusals.{checkOne}
 use Rattle.rules.specs.Operations.{olderBound}
 use Rattle.rules.proofs.Starts.{Judgeable, one-judgeable, judgeable-one}
 use Rattle.rules.proofs.Points.{start-right, start-limit, carries, carried-judgeable}

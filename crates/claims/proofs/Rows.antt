@@ -6,8 +6,8 @@ use Prim.Native.Nat.{ℕ, zero, suc, _+_, _*_, _≤_, _<_}
 use native.Mathlib.Omega.{arith}
 use lib.ListN.{length, take, drop, getD, length-append, length-drop}
 use lib.Seq.{length-take-le, take-add, take-at, drop-at, drop-drop}
-use Rattle.rules.specs.Idioms.{from, joined, part}
-use Rattle.rules.proofs.Bytes.{Bytes}
+use Rattle.laws.specs.Idioms.{from, joined, part}
+use Rattle.laws.specs.Bytes.{Bytes}
 use Rattle.claims.proofs.ByteLists.{bytes-take, bytes-drop}
 
 -- n rows of w

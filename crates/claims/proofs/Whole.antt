@@ -9,12 +9,13 @@ use lib.Dec.{eqb}
 use lib.ListN.{length, take, drop, take-append-drop, length-append, length-drop}
 use lib.Seq.{take-all, take-at, length-take-le, drop-append-add}
 use borrow.Author.Tests.{ltb-false, le-ltb, eqb-true, eq-eqb, not-false}
-use Rattle.rules.specs.Idioms.{number, bytes, part}
 use Rattle.rules.specs.File.{fileLength, coresIn, tasksIn, formIn, sumOf, runningSum, trailer, checkWhole}
-use Rattle.rules.specs.Refusals.{accepted, isAccepted, given, _orElse_}
-use Rattle.rules.proofs.Bytes.{Bytes, number-bytes}
+use Rattle.rules.specs.Chain.{accepted, isAccepted, given, _orElse_}
 use Rattle.rules.proofs.Chain.{both-accepted, no-fault}
-use Rattle.rules.proofs.Tests.{or-neither}
+use Rattle.laws.specs.Idioms.{number, bytes, part}
+use Rattle.laws.specs.Bytes.{Bytes}
+use Rattle.laws.proofs.Bytes.{number-bytes}
+use Rattle.laws.proofs.Tests.{or-neither}
 use Rattle.claims.proofs.ByteLists.{part-join, part-known}
 use Rattle.claims.proofs.ByteSums.{sum-fits, running-fits}
 

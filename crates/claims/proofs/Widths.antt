@@ -9,15 +9,15 @@ use lib.Dec.{lit<}
 use lib.ListN.{getD}
 use borrow.Author.Tests.{not-false}
 use Rattle.rules.specs.declared.Table.{Table}
-use Rattle.rules.specs.Idioms.{entry}
 use Rattle.rules.specs.Timing.{ranges}
 use Rattle.rules.specs.Tasks.{noTask}
-use Rattle.rules.specs.Refusals.{isAccepted, given, _orElse_, first, countsFault, figureFault, relationFault, checkTiming, setFault, checkBoard, checkTasks, checkTable}
-use Rattle.rules.specs.Sound.{Within}
+use Rattle.rules.specs.Chain.{isAccepted, given, _orElse_, first}
+use Rattle.rules.specs.Refusals.{countsFault, figureFault, relationFault, checkTiming, setFault, checkBoard, checkTasks, checkTable}
 use Rattle.rules.proofs.Accepted.{sound}
 use Rattle.rules.proofs.Chain.{both-accepted}
 use Rattle.rules.proofs.First.{none-first}
-use Rattle.rules.proofs.Tests.{or-neither, inside}
+use Rattle.laws.specs.Idioms.{entry, Within}
+use Rattle.laws.proofs.Tests.{or-neither, inside}
 use Rattle.claims.proofs.Codes.{Fits}
 
 -- no highest value of the ranges is above the largest of them

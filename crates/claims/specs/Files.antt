@@ -7,13 +7,14 @@ use mathlib.Core.Bool.{true, false}
 use mathlib.Core.List.{List, _++_}
 use lib.ListN.{length, take, drop, getD, set}
 use Rattle.rules.specs.declared.Table.{Table}
-use Rattle.rules.specs.Idioms.{filled}
 use Rattle.rules.specs.Tasks.{noTask, tasksOf}
-use Rattle.rules.specs.Refusals.{accepted, isAccepted, checkTable}
+use Rattle.rules.specs.Chain.{accepted, isAccepted}
+use Rattle.rules.specs.Refusals.{checkTable}
 use Rattle.rules.specs.File.{encode}
 use Rattle.rules.specs.Operations.{reading, writing, outAfter}
 use Rattle.rules.specs.Figures.{listed}
-use Rattle.rules.proofs.Bytes.{Bytes}
+use Rattle.laws.specs.Idioms.{filled}
+use Rattle.laws.specs.Bytes.{Bytes}
 
 -- a file that reading accepts, and one that it refuses; a table that is accepted
 abbrev pub AcceptedFile : List ℕ → Type 0

@@ -14,7 +14,8 @@ use Rattle.rules.specs.Tasks.{D, taskOf, coreOf, higher}
 use Rattle.rules.specs.Board.{memoryOf}
 use Rattle.rules.specs.Response.{F, request, job}
 use Rattle.rules.specs.Judgement.{startOf, judge}
-use Rattle.rules.specs.Refusals.{isAccepted, checkOne}
+use Rattle.rules.specs.Chain.{isAccepted}
+use Rattle.rules.specs.Refusals.{checkOne}
 use Rattle.claims.specs.Files.{AcceptedTable}
 
 -- a task of an accepted table

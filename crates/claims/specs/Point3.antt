@@ -6,14 +6,15 @@ use Rattle.equation.specs.Rounds.{Course}
 use Rattle.rules.specs.declared.Table.{Table}
 use Rattle.rules.specs.declared.Delay.{Delay}
 use Rattle.rules.specs.declared.Verdict.the-variants.{Holds}
-use Rattle.rules.specs.Idioms.{sumOver, _/↑_}
+use Rattle.laws.specs.Idioms.{sumOver, _/↑_}
 use Rattle.rules.specs.Units.{ps}
 use Rattle.rules.specs.Tasks.{T, D, taskOf}
 use Rattle.rules.specs.Others.{others}
 use Rattle.rules.specs.Response.{F}
 use Rattle.rules.specs.Judgement.{startOf, roundsOf, judge}
 use Rattle.rules.specs.Order.{worsens}
-use Rattle.rules.specs.Refusals.{isAccepted, checkOne}
+use Rattle.rules.specs.Chain.{isAccepted}
+use Rattle.rules.specs.Refusals.{checkOne}
 use Rattle.rules.specs.Operations.{olderBound}
 use Rattle.claims.specs.Files.{AcceptedTable}
 use Rattle.claims.specs.Point2.{Right}

@@ -6,7 +6,7 @@ use mathlib.Core.List.{List, []}
 use lib.ListN.{replicate}
 use Rattle.rules.specs.declared.Table.{Table}
 use Rattle.rules.specs.Judgement.{misses}
-use Rattle.rules.specs.Refusals.{isAccepted}
+use Rattle.rules.specs.Chain.{isAccepted}
 use Rattle.rules.specs.Operations.{emptyTable, reading, checkView, viewing, writing, outAfter, judgeOne, judgeAll, rejudging}
 
 -- "A refused read gives an all-zero table, a refused view an empty part, a refused judgement answers that are all misses in

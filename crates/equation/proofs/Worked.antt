@@ -28,6 +28,11 @@ two-misses : judge two (3 * 10 ^ 9) (9 * 10 ^ 9 - 1) 0 ≡ record { verdict = mi
 unfolding judge two ceil
 two-misses = refl
 
+-- a lowest start above the deadline
+two-none : judge two (3 * 10 ^ 9) (3 * 10 ^ 9 - 1) 0 ≡ record { verdict = misses; rounds = 0 }
+unfolding judge two ceil
+two-none = refl
+
 -- a thousand rounds, each of ten more
 ten-more : ℕ → ℕ
 ten-more t = 1 + ceil t 10 * 10

@@ -33,10 +33,12 @@ climb F D (suc fuel) t =
           elim (ltb D u) [ true ↦ record { verdict = misses; rounds = 1 } | false ↦ again (climb F D fuel u) ]
     ]
 
--- judge F L D start: from the larger of the lowest start L and the given one. The time rises to at most D, so the fuel lasts
+-- judge F L D start: a miss in 0 rounds where the lowest start L is above D; else the rounds from the larger of L and the given start.
+-- The time rises to at most D, so the fuel lasts
 unfoldable pub judge : (ℕ → ℕ) → ℕ → ℕ → ℕ → Answer
 unfolding climb
-judge F L D start = climb F D (suc D) (max L start)
+judge F L D start =
+    elim (ltb D L) [ true ↦ record { verdict = misses; rounds = 0 } | false ↦ climb F D (suc D) (max L start) ]
 
 -- ---- the number of rounds
 

@@ -5,8 +5,8 @@ use Prim.Native.Nat.{ℕ, _+_, _*_, _-_, _<_, _≤_}
 use native.Mathlib.Omega.{arith}
 use lib.ListN.{length, take}
 use borrow.Author.Tests.{lt-ltb, le-ltb, eq-eqb, ne-eqb}
-use Rattle.rules.specs.Idioms.{number, part}
-use Rattle.rules.specs.Refusals.{accepted, refused}
+use Rattle.laws.specs.Idioms.{number, part}
+use Rattle.rules.specs.Chain.{accepted, refused}
 use Rattle.rules.specs.File.{setsAt, recordsAt, recordSize, recordAt, fileLength, coresIn, tasksIn, formIn, sumOf, runningSum, checkWhole}
 use Rattle.file.specs.Sums.{checkTrailer}
 

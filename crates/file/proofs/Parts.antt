@@ -6,7 +6,7 @@ use native.Mathlib.Omega.{arith}
 use native.Mathlib.Nat.{pow-suc}
 use lib.ListN.{length, length-drop, drop, getD}
 use lib.Seq.{take-add, drop-drop, drop-cons, length-take-le}
-use Rattle.rules.specs.Idioms.{number, part}
+use Rattle.laws.specs.Idioms.{number, part}
 
 pub number-append : (xs ys : List ℕ) → number (xs ++ ys) ≡ number xs + 256 ^ length xs * number ys
 unfolding number

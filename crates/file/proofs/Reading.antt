@@ -9,12 +9,13 @@ use native.Mathlib.Omega.{arith}
 use lib.ListN.{length}
 use borrow.Author.Tests.{le-leb, lt-leb, eqb-true, not-false}
 use Rattle.rules.specs.declared.Table.{Table}
-use Rattle.rules.specs.Refusals.{accepted, refused, isAccepted, given, countsFault, checkBoard, checkTable, askedFault}
-use Rattle.rules.specs.Sound.{Within}
+use Rattle.rules.specs.Chain.{accepted, refused, isAccepted, given}
+use Rattle.rules.specs.Refusals.{countsFault, checkBoard, checkTable, askedFault}
 use Rattle.rules.specs.File.{coresIn, tasksIn, formIn, fileLength, recordIn, checkWhole, decode}
 use Rattle.rules.specs.Operations.{checkFile, reading, checkView, viewing}
 use Rattle.rules.proofs.Chain.{both-accepted, no-fault}
-use Rattle.rules.proofs.Tests.{inside}
+use Rattle.laws.specs.Idioms.{Within}
+use Rattle.laws.proofs.Tests.{inside}
 use Rattle.file.specs.Answers.{readNothing}
 use Rattle.file.proofs.Checks.{length-is, too-short, wrong-length}
 

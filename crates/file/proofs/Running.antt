@@ -7,7 +7,7 @@ use native.Mathlib.Numerals.{add-one}
 use lib.ListN.{length, take, getD}
 use lib.Seq.{take-suc}
 use Rattle.rules.specs.File.{sumOf, runningFrom, runningSum}
-use Rattle.rules.proofs.Sums.{sum-append}
+use Rattle.laws.proofs.Sums.{sum-append}
 
 running-snoc : (a : ℕ) (l : List ℕ) (x : ℕ) → sumOf (runningFrom a (l ++ (x ∷ []))) ≡ sumOf (runningFrom a l) + (a + sumOf l + x)
 running-snoc a [] x = omega arith

@@ -6,10 +6,10 @@ use native.Mathlib.Nat.{add-sub-cancel-left}
 use lib.ListN.{length, set, take, drop}
 use lib.Seq.{sets}
 use Rattle.rules.specs.declared.Task.{Task}
-use Rattle.rules.specs.Idioms.{number, part, filled}
 use Rattle.rules.specs.Tasks.{noTask}
 use Rattle.rules.specs.File.{recordSize, recordAt, recordIn, recordTask, coresIn, formIn}
-use Rattle.rules.proofs.Fill.{fill-step}
+use Rattle.laws.specs.Idioms.{number, part, filled}
+use Rattle.laws.proofs.Fill.{fill-step}
 use Rattle.file.specs.Places.{figuresIn, tasksTo}
 use Rattle.file.proofs.Runs.{map-below-next, length-map-below, map-upTo-next, length-map-upTo, sets-next}
 

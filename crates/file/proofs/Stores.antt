@@ -6,12 +6,12 @@ use native.Mathlib.Omega.{arith}
 use native.Mathlib.Numerals.{add-one}
 use lib.ListN.{length, length-append, take, getD, set}
 use lib.Seq.{sets, take-suc, take-all, length-take-le}
-use Rattle.rules.specs.Idioms.{joined, bytes}
 use Rattle.rules.specs.declared.Task.{Task}
 use Rattle.rules.specs.declared.Table.{Table}
 use Rattle.rules.specs.Tasks.{C, T, D, H, tasksOf}
 use Rattle.rules.specs.File.{recordBytes, sumOf, runningSum, trailer, body}
-use Rattle.rules.proofs.Bytes.{bytes-length}
+use Rattle.laws.specs.Idioms.{joined, bytes}
+use Rattle.laws.proofs.Bytes.{bytes-length}
 use Rattle.file.specs.Places.{counts}
 use Rattle.file.proofs.Runs.{map-snoc, sets-after}
 

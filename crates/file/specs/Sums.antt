@@ -5,8 +5,8 @@ use mathlib.Core.List.{List}
 use lib.Dec.{eqb}
 use lib.ListN.{length, take}
 use Rattle.rules.specs.declared.Refusal.{Refusal}
-use Rattle.rules.specs.Idioms.{number, part}
-use Rattle.rules.specs.Refusals.{_orElse_, given}
+use Rattle.laws.specs.Idioms.{number, part}
+use Rattle.rules.specs.Chain.{_orElse_, given}
 use Rattle.rules.specs.File.{sumOf, runningSum}
 use Rattle.file.specs.declared.Totals.{Totals}
 

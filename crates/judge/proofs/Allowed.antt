@@ -9,16 +9,18 @@ use Rattle.equation.proofs.Judge.{fresh-allowed}
 use Rattle.rules.specs.declared.Table.{Table}
 use Rattle.rules.specs.declared.Answer.{Answer}
 use Rattle.rules.specs.declared.AllJudged.{AllJudged}
-use Rattle.rules.specs.Idioms.{upTo, entry, filled}
 use Rattle.rules.specs.Judgement.{misses, judge}
 use Rattle.rules.specs.Order.{worsens}
-use Rattle.rules.specs.Refusals.{accepted, isAccepted, checkTable, lateStart, highStart}
+use Rattle.rules.specs.Refusals.{checkTable, lateStart, highStart}
 use Rattle.rules.specs.Operations.{answersFrom, noAnswers, fresh, olderBound}
 use Rattle.rules.proofs.Accepted.{sound}
 use Rattle.rules.proofs.First.{first-none}
-use Rattle.rules.proofs.Members.{member-upTo, map-same}
+use Rattle.laws.specs.Idioms.{upTo, entry, filled}
+use Rattle.laws.proofs.Members.{member-upTo, map-same}
 use Rattle.rules.proofs.Instance.{equation-of, lowest-fits}
-use Rattle.rules.proofs.Starts.{AllowedStart, allowed-passes}
+use Rattle.rules.specs.Chain.{accepted, isAccepted}
+use Rattle.rules.specs.Starts.{AllowedStart}
+use Rattle.rules.proofs.Starts.{allowed-passes}
 use Rattle.rules.proofs.Points.{carried-judgeable}
 use Rattle.rules.proofs.Worsened.{worsened}
 use Rattle.board.proofs.Places.{from-length, place-of}

@@ -9,7 +9,7 @@ use lib.Dec.{eqb}
 use lib.ListN.{length, length-map, getD, List·getD-eq-default}
 use borrow.Author.Tests.{eq-eqb, ne-eqb}
 use Rattle.rules.specs.declared.Table.{Table}
-use Rattle.rules.specs.Idioms.{every, from, upTo, entry}
+use Rattle.laws.specs.Idioms.{every, from, upTo, entry}
 use Rattle.rules.specs.Tasks.{noTask, taskOf}
 use Rattle.rules.specs.Order.{sameBoard, worseTask}
 use Rattle.judge.specs.Same.{alikeTo}

@@ -13,20 +13,20 @@ use Rattle.rules.specs.declared.Answer.{Answer}
 use Rattle.rules.specs.declared.Judged.{Judged}
 use Rattle.rules.specs.declared.AllJudged.{AllJudged}
 use Rattle.rules.specs.declared.Rejudged.{Rejudged}
-use Rattle.rules.specs.Idioms.{within, entry}
 use Rattle.rules.specs.Tasks.{D, latest, noTask, taskOf}
 use Rattle.rules.specs.Judgement.{misses, judge}
-use Rattle.rules.specs.Sound.{Within, Sound}
-use Rattle.rules.specs.Refusals.{accepted, refused, isAccepted, _orElse_, given, checkTable, askedFault, lateStart, highStart, checkOne, checkAll}
+use Rattle.rules.specs.Sound.{Sound}
+use Rattle.rules.specs.Refusals.{checkTable, askedFault, lateStart, highStart, checkOne, checkAll, checkStart}
 use Rattle.rules.specs.Order.{worsens}
 use Rattle.rules.specs.Operations.{judgeOne, judgeAll, answersFrom, fresh, olderBound, checkBoth, isCarried, rejudging}
 use Rattle.rules.proofs.Again.{rejudged-verdicts}
 use Rattle.rules.proofs.Chain.{both-accepted, first-refuses, second-decides, no-fault}
 use Rattle.rules.proofs.Accepted.{sound}
-use Rattle.rules.proofs.Tests.{inside}
+use Rattle.laws.specs.Idioms.{within, entry, Within}
+use Rattle.laws.proofs.Tests.{inside}
 use Rattle.rounds.specs.declared.Climbed.{Climbed}
 use Rattle.rounds.specs.Numbered.{climbedFor, notJudged, noneJudged, firstLate, firstHigh, judgedTasks}
-use Rattle.judge.specs.Links.{checkStart}
+use Rattle.rules.specs.Chain.{accepted, refused, isAccepted, _orElse_, given}
 use Rattle.judge.specs.Carried.{notRejudged, Carried}
 
 -- a refusal that a call gave: its number is 0, or is not

@@ -7,12 +7,11 @@ use Rattle.rules.specs.declared.Table.{Table}
 use Rattle.rules.specs.declared.Answer.{Answer}
 use Rattle.rules.specs.declared.Refusal.{Refusal}
 use Rattle.rules.specs.declared.Rejudged.{Rejudged}
-use Rattle.rules.specs.Idioms.{entry}
+use Rattle.laws.specs.Idioms.{entry}
 use Rattle.rules.specs.Judgement.{boundOf}
-use Rattle.rules.specs.Refusals.{isAccepted}
-use Rattle.rules.specs.Operations.{answersFrom, noAnswers, fresh, rejudging}
-use Rattle.rules.proofs.Starts.{AllowedStart}
-use Rattle.rules.proofs.Again.{verdicts}
+use Rattle.rules.specs.Operations.{answersFrom, noAnswers, fresh, rejudging, verdicts}
+use Rattle.rules.specs.Chain.{isAccepted}
+use Rattle.rules.specs.Starts.{AllowedStart}
 
 -- "each task started from its older bound, or 0 where it missed"
 abbrev pub startOf : Answer → ℕ

@@ -2,7 +2,8 @@
 use Prim.Native.Nat.{ℕ}
 use Rattle.rules.specs.declared.Table.{Table}
 use Rattle.rules.specs.declared.Refusal.{Refusal}
-use Rattle.rules.specs.Refusals.{_orElse_, given, checkTable, askedFault, lateStart}
+use Rattle.rules.specs.Chain.{_orElse_, given}
+use Rattle.rules.specs.Refusals.{checkTable, askedFault, lateStart}
 
 -- 5 to 13 of one task: `checkOne` adds 14
 unfoldable pub checkStart : Table → ℕ → ℕ → Refusal

@@ -4,7 +4,7 @@ use mathlib.Core.Bool.{Bool}
 use mathlib.Core.List.{List}
 use lib.Dec.{eqb}
 use Rattle.rules.specs.declared.Table.{Table}
-use Rattle.rules.specs.Idioms.{every, upTo, entry}
+use Rattle.laws.specs.Idioms.{every, upTo, entry}
 use Rattle.rules.specs.Tasks.{taskOf}
 use Rattle.rules.specs.Order.{worseTask}
 

@@ -2,15 +2,15 @@
 ghost use mathlib.Core.Path.{_≡_};
 ghost use mathlib.Core.Bool.{true};
 ghost use lib.ListN.{length};
-ghost use Rattle.rules.specs.Idioms.{entry};
+ghost use Rattle.laws.specs.Idioms.{entry};
 ghost use Rattle.rules.specs.Order as Order;
 ghost use Rattle.rules.specs.Order.{worseTask, sameBoard};
 ghost use Rattle.rules.specs.Refusals as Refusals;
-ghost use Rattle.rules.specs.Refusals.{isAccepted, checkTable};
+ghost use Rattle.rules.specs.Refusals.{checkTable, checkStart};
 ghost use Rattle.rules.specs.Operations.{judgeOne, judgeAll, answersFrom};
 ghost use Rattle.rounds.specs.Numbered.{notJudged};
 ghost use Rattle.judge.specs.Same.{alikeTo, allWorse};
-ghost use Rattle.judge.specs.Links.{checkStart};
+ghost use Rattle.rules.specs.Chain.{isAccepted};
 ghost use Rattle.judge.specs.Carried.{startOf, olderStarts, AllAllowed, notRejudged, Carried};
 use rules::AllJudged;
 use rules::Answer;

@@ -9,7 +9,7 @@ use lib.Dec.{ltb}
 use lib.ListN.{length, take, drop, set, length-drop, drop-of-length-le}
 use lib.Seq.{take-all, set-split, drop-at, length-take-le}
 use borrow.Author.Tests.{lt-ltb, le-ltb, ltb-true, ltb-false}
-use Rattle.rules.specs.Listing.{digits, decimal}
+use Rattle.laws.specs.Decimal.{digits, decimal}
 use Rattle.listing.specs.Put.{Spelled}
 
 module _ (more n : ℕ) (after : List ℕ) where

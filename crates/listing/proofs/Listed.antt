@@ -7,7 +7,8 @@ use lib.ListN.{replicate}
 use borrow.Author.Tests.{eq-eqb, ne-eqb}
 use Rattle.rules.specs.declared.Read.{Read}
 use Rattle.rules.specs.declared.AllJudged.{AllJudged}
-use Rattle.rules.specs.Refusals.{isAccepted, checkTable}
+use Rattle.rules.specs.Chain.{isAccepted}
+use Rattle.rules.specs.Refusals.{checkTable}
 use Rattle.rules.specs.File.{decode, checkWhole}
 use Rattle.rules.specs.Operations.{checkFile, reading, judgeAll}
 use Rattle.rules.specs.Listing.{listing}

@@ -7,11 +7,11 @@ use native.Mathlib.Omega.{arith}
 use lib.ListN.{length, take, getD}
 use lib.Seq.{getD-take, length-take-le}
 use borrow.Author.Tests.{le-ltb, ne-eqb}
-use Rattle.rules.specs.Refusals.{refused}
+use Rattle.rules.specs.Chain.{refused}
 use Rattle.rules.specs.File.{setsAt, recordsAt, recordSize, fileLength, coresIn, tasksIn, formIn, checkWhole}
 use Rattle.rules.specs.Operations.{emptyTable, checkFile, reading}
 use Rattle.rules.specs.Listing.{listing}
-use Rattle.rules.proofs.Bytes.{Bytes, none, more}
+use Rattle.laws.specs.Bytes.{Bytes, none, more}
 
 byte-at : {s : List ℕ} → Bytes s → (i : ℕ) → getD s i 0 < 256
 byte-at none i = omega arith

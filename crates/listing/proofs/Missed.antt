@@ -7,7 +7,7 @@ use native.Mathlib.Nat.{add-sub-cancel, sub-zero}
 use native.Mathlib.Omega.{arith}
 use lib.ListN.{getD}
 use Rattle.rules.specs.declared.Answer.{Answer}
-use Rattle.rules.specs.Idioms.{from, entry, those}
+use Rattle.laws.specs.Idioms.{from, entry, those}
 use Rattle.rules.specs.Judgement.{misses}
 use Rattle.rules.specs.Listing.{isMiss, lastLine}
 use Rattle.listing.specs.declared.last.First.{First}

@@ -7,11 +7,12 @@ use lib.ListN.{getD}
 use borrow.Author.Tests.{le-leb, lt-leb}
 use Rattle.rules.specs.declared.Table.{Table}
 use Rattle.rules.specs.declared.Answer.{Answer}
-use Rattle.rules.specs.Idioms.{text, from, upTo, joined}
 use Rattle.rules.specs.Judgement.{misses}
 use Rattle.rules.specs.Tasks.{noTask}
-use Rattle.rules.specs.Listing.{decimal, line, verdictWords, taskLine, lastLine, tableLines}
-use Rattle.rules.proofs.Sums.{upTo-next}
+use Rattle.rules.specs.Listing.{line, verdictWords, taskLine, lastLine, tableLines}
+use Rattle.laws.specs.Idioms.{text, from, upTo, joined}
+use Rattle.laws.specs.Decimal.{decimal}
+use Rattle.laws.proofs.Sums.{upTo-next}
 use Rattle.listing.specs.Lines.{spaced, row, rows, missed, tableText}
 
 -- a line's words: the first, those between, and the last

@@ -7,10 +7,11 @@ use Rattle.rules.specs.declared.Table.{Table}
 use Rattle.rules.specs.declared.Answer.{Answer}
 use Rattle.listing.specs.declared.last.First.{First}
 use Rattle.listing.specs.declared.last.First.the-variants.{Nothing, At}
-use Rattle.rules.specs.Idioms.{text, upTo, entry, joined, those}
 use Rattle.rules.specs.Judgement.{misses}
 use Rattle.rules.specs.Tasks.{coreOf}
-use Rattle.rules.specs.Listing.{decimal, line, taskLine, isMiss, tableLines}
+use Rattle.laws.specs.Idioms.{text, upTo, entry, joined, those}
+use Rattle.laws.specs.Decimal.{decimal}
+use Rattle.rules.specs.Listing.{line, taskLine, isMiss, tableLines}
 
 -- words with a space before each and after the last
 abbrev pub spaced : List (List ℕ) → List ℕ

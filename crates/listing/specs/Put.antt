@@ -6,7 +6,7 @@ use Prim.Native.Nat.{ℕ, _+_, _≤_}
 use lib.Dec.{leb}
 use lib.ListN.{length, drop}
 use lib.Seq.{sets}
-use Rattle.rules.specs.Listing.{decimal}
+use Rattle.laws.specs.Decimal.{decimal}
 
 -- `next` is the place after the text, which has been stored byte by byte from place `at` on; no other byte changed
 pub record Put (before : List ℕ) (at : ℕ) (text : List ℕ) (next : ℕ) (after : List ℕ) : Type 0 where

@@ -8,7 +8,8 @@ use rules::Verdict;
 ghost use mathlib.Core.List.{[], _∷_, _++_};
 ghost use Prim.Native.Nat.{_+_, _≤_};
 ghost use lib.ListN.{length};
-ghost use Rattle.rules.specs.Listing.{decimal, delayWord, verdictWords, taskLine};
+ghost use Rattle.laws.specs.Decimal.{decimal};
+ghost use Rattle.rules.specs.Listing.{delayWord, verdictWords, taskLine};
 ghost use Rattle.listing.specs.Put.{Put};
 ghost use Rattle.listing.specs.Lines.{spaced, rows};
 

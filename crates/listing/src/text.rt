@@ -2,7 +2,7 @@
 ghost use mathlib.Core.Path.{_≡_};
 ghost use Prim.Native.Nat.{_+_, _≤_};
 ghost use lib.ListN.{length};
-ghost use Rattle.rules.specs.Listing.{decimal};
+ghost use Rattle.laws.specs.Decimal.{decimal};
 ghost use Rattle.listing.specs.Put.{Put, Spelled, Given};
 
 // A word from place `at` on; the place after it.

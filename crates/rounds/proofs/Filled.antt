@@ -7,9 +7,9 @@ use native.Mathlib.Omega.{arith}
 use lib.ListN.{length, length-append, length-map, length-replicate, take, getD}
 use lib.Seq.{getD-take}
 use Rattle.rules.specs.declared.Table.{Table}
-use Rattle.rules.specs.Idioms.{filled, upTo, entry}
 use Rattle.rules.specs.Tasks.{D, taskOf, coreOf}
-use Rattle.rules.specs.Sound.{Within, Sound}
+use Rattle.laws.specs.Idioms.{filled, upTo, entry, Within}
+use Rattle.rules.specs.Sound.{Sound}
 use Rattle.board.specs.declared.CoreCosts.{CoreCosts}
 use Rattle.board.specs.Costs.{costsOf, noCosts}
 use Rattle.board.proofs.Places.{from-length, place-of}

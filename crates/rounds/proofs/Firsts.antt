@@ -11,10 +11,11 @@ use Rattle.rules.specs.declared.Table.{Table}
 use Rattle.rules.specs.declared.Refusal.{Refusal}
 use Rattle.rules.specs.declared.Answer.{Answer}
 use Rattle.rules.specs.declared.AllJudged.{AllJudged}
-use Rattle.rules.specs.Idioms.{upTo, entry, filled}
+use Rattle.laws.specs.Idioms.{upTo, entry, filled}
 use Rattle.rules.specs.Tasks.{D, latest, noTask, taskOf}
 use Rattle.rules.specs.Judgement.{misses, judge}
-use Rattle.rules.specs.Refusals.{accepted, refused, isAccepted, firstFrom, first, lateStart, highStart}
+use Rattle.rules.specs.Chain.{accepted, refused, isAccepted, firstFrom, first}
+use Rattle.rules.specs.Refusals.{lateStart, highStart}
 use Rattle.rules.specs.Operations.{answersFrom}
 use Rattle.rules.proofs.First.{first-hit, first-next, first-done, none-first}
 use Rattle.rounds.specs.declared.Climbed.{Climbed}

@@ -8,7 +8,7 @@ use Rattle.equation.specs.Equation.{Equation}
 use Rattle.equation.specs.Verdict.{Verdict}
 use Rattle.equation.specs.Rounds.{Rounds}
 use Rattle.equation.specs.Start.{Allowed}
-use Rattle.equation.proofs.Quotients.{ceil-rises}
+use Rattle.laws.proofs.Quotients.{ceil-rises}
 use Rattle.equation.proofs.Judge.{judge-only}
 use Rattle.equation.proofs.Loop.{Midway, midway-first, midway-next, midway-holds, midway-misses}
 use Rattle.rules.specs.declared.Answer.{Answer}

@@ -7,7 +7,7 @@ use native.Mathlib.Numerals.{add-one}
 use native.Mathlib.Omega.{arith}
 use lib.ListN.{length, take, getD, replicate}
 use lib.Seq.{take-all}
-use Rattle.rules.specs.Idioms.{sumOver, filled}
+use Rattle.laws.specs.Idioms.{sumOver, filled}
 use Rattle.rounds.specs.Terms.{sumBoth, Each, none, more, Beside}
 
 module _ (f : ℕ → ℕ → ℕ) where

@@ -8,10 +8,10 @@ use native.Mathlib.Omega.{arith}
 use lib.ListN.{length, length-map, length-take, take}
 use Rattle.rules.specs.declared.Task.{Task}
 use Rattle.rules.specs.declared.Table.{Table}
-use Rattle.rules.specs.Idioms.{those}
 use Rattle.rules.specs.Tasks.{C, T, D, H, tasksOf, taskOf, coreOf, higher, elsewhere}
-use Rattle.rules.specs.Sound.{Within, Sound, SoundTask}
-use Rattle.rules.proofs.Weights.{weight}
+use Rattle.laws.specs.Idioms.{those, Within}
+use Rattle.rules.specs.Sound.{Sound, SoundTask}
+use Rattle.rules.specs.Board.{weight}
 use Rattle.rules.proofs.SoundTasks.{sound-higher, sound-elsewhere}
 use Rattle.board.proofs.Bounds.{weight-bounded}
 use Rattle.rounds.specs.Terms.{Periods, Beside, Higher, Away, Fair}

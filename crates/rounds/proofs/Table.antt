@@ -9,13 +9,13 @@ use lib.ListN.{length, length-append, length-map, length-replicate, take, getD, 
 use lib.Seq.{length-take-le, getD-take, take-take}
 use Rattle.rules.specs.declared.Task.{Task}
 use Rattle.rules.specs.declared.Table.{Table}
-use Rattle.rules.specs.Idioms.{those, entry, upTo, filled}
 use Rattle.rules.specs.Tasks.{C, T, D, H, noTask, tasksOf, taskOf, coreOf, isOn, higher, elsewhere}
 use Rattle.rules.specs.Dram.{RD}
-use Rattle.rules.specs.Sound.{Within, Sound}
-use Rattle.rules.proofs.Members.{map-same}
+use Rattle.rules.specs.Sound.{Sound}
+use Rattle.laws.specs.Idioms.{those, entry, upTo, filled, Within}
+use Rattle.laws.proofs.Members.{map-same}
 use Rattle.rules.proofs.SoundTasks.{sound-all, sound-elsewhere, tasks-there}
-use Rattle.rules.proofs.Weights.{weight}
+use Rattle.rules.specs.Board.{weight}
 use Rattle.board.specs.Costs.{costsOf}
 use Rattle.board.proofs.Places.{from-length, place-of}
 use Rattle.board.proofs.Bounds.{weight-bounded}

@@ -6,9 +6,8 @@ use mathlib.Core.List.{List, [], _∷_, map}
 use lib.Dec.{eqb}
 use lib.ListN.{length, take, getD}
 use Rattle.rules.specs.declared.Table.{Table}
-use Rattle.rules.specs.Idioms.{entry}
 use Rattle.rules.specs.Tasks.{C, T, D, H, tasksOf}
-use Rattle.rules.specs.Sound.{Within}
+use Rattle.laws.specs.Idioms.{entry, Within}
 use Rattle.rounds.specs.Terms.{Each, Beside, Terms, termsOf}
 
 -- of the places whose core passes a test, what f makes of core and value

@@ -7,13 +7,14 @@ use Rattle.rules.specs.declared.Table.{Table}
 use Rattle.rules.specs.declared.Refusal.{Refusal}
 use Rattle.rules.specs.declared.Judged.{Judged}
 use Rattle.rules.specs.declared.AllJudged.{AllJudged}
-use Rattle.rules.specs.Idioms.{entry}
+use Rattle.laws.specs.Idioms.{entry}
 use Rattle.rules.specs.Tasks.{C, T, H, taskOf, coreOf, higher, elsewhere}
 use Rattle.rules.specs.Dram.{RD}
 use Rattle.rules.specs.Judgement.{misses, judge}
-use Rattle.rules.specs.Refusals.{isAccepted, first, lateStart, highStart}
+use Rattle.rules.specs.Refusals.{lateStart, highStart}
 use Rattle.rules.specs.Operations.{answersFrom, noAnswers}
-use Rattle.rules.proofs.Weights.{weight}
+use Rattle.rules.specs.Chain.{isAccepted, first}
+use Rattle.rules.specs.Board.{weight}
 use Rattle.rounds.specs.declared.Climbed.{Climbed}
 use Rattle.rounds.specs.Terms.{Terms, termsOf}
 

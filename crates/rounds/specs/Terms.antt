@@ -5,8 +5,7 @@ use mathlib.Core.Bool.{cond}
 use mathlib.Core.List.{List, [], _∷_}
 use lib.Dec.{leb}
 use lib.ListN.{length}
-use Rattle.rules.specs.Idioms.{_/↑_}
-use Rattle.rules.specs.Sound.{Within}
+use Rattle.laws.specs.Idioms.{_/↑_, Within}
 use Rattle.rules.specs.declared.Delay.{Delay}
 use Rattle.rules.specs.declared.Delay.the-variants.{Request, Job}
 use Rattle.rounds.specs.declared.Own.{Own}

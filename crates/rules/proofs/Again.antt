@@ -7,21 +7,17 @@ use lib.ListN.{length, length-map}
 use Rattle.equation.proofs.Least.{right-unique}
 use Rattle.rules.specs.declared.Table.{Table}
 use Rattle.rules.specs.declared.Answer.{Answer}
-use Rattle.rules.specs.declared.Verdict.{Verdict}
-use Rattle.rules.specs.Idioms.{upTo}
 use Rattle.rules.specs.Response.{decider}
 use Rattle.rules.specs.Judgement.{withDelay, roundsOf, judge}
 use Rattle.rules.specs.Order.{worsens}
-use Rattle.rules.specs.Refusals.{isAccepted, checkTable}
-use Rattle.rules.specs.Operations.{answersFrom, fresh, olderBound, checkBoth, rejudging}
+use Rattle.rules.specs.Chain.{isAccepted}
+use Rattle.rules.specs.Refusals.{checkTable, checkJudged}
+use Rattle.rules.specs.Operations.{answersFrom, fresh, verdicts, olderBound, checkBoth, rejudging}
 use Rattle.rules.proofs.Chain.{both-accepted}
-use Rattle.rules.proofs.Members.{member-upTo}
+use Rattle.laws.specs.Idioms.{upTo}
+use Rattle.laws.proofs.Members.{member-upTo}
 use Rattle.rules.proofs.Worsened.{worsened}
 use Rattle.rules.proofs.Points.{fresh-right, carries}
-
--- the verdicts of answers, without their rounds
-abbrev pub verdicts : List Answer → List Verdict
-verdicts answers = map (λ a. a .verdict) answers
 
 verdicts-append : (xs ys : List Answer) → verdicts (xs ++ ys) ≡ verdicts xs ++ verdicts ys
 verdicts-append [] ys = refl
@@ -55,7 +51,7 @@ module _ (older newer : Table) (was : isAccepted (checkTable older) ≡ true) (i
 
 pub rejudged-verdicts : (older newer : Table) → isAccepted (checkBoth older newer) ≡ true
     → verdicts (rejudging older newer .answers) ≡ verdicts (answersFrom newer fresh)
-unfolding rejudging checkBoth
+unfolding rejudging checkBoth checkJudged
 rejudged-verdicts older newer both = rw both (go (worsens older newer) refl)
   where
     accepted-two : (isAccepted (checkTable older) ≡ true) × (isAccepted (checkTable newer) ≡ true)

@@ -3,16 +3,16 @@ use mathlib.Core.Path.{_≡_, refl, sym, ap, _∙_}
 use mathlib.Core.List.{map, List·Memᴰ}
 use Prim.Native.Nat.{ℕ, _+_, _≤_}
 use Rattle.rules.specs.declared.Table.{Table}
-use Rattle.rules.specs.Idioms.{sumOver, from, upTo, entry}
 use Rattle.rules.specs.Timing.{Row}
 use Rattle.rules.specs.Units.{inTime, _⊕_}
 use Rattle.rules.specs.Delays.{pre, act, readwrite, hit, reopen, conf, run, window}
 use Rattle.rules.specs.Cores.{isNear, isFar, near, far}
 use Rattle.rules.specs.Dram.{crossing, conflict, inter, intra, RD}
 use Rattle.rules.specs.Worsened.{Alike}
-use Rattle.rules.proofs.Linear.{sum-same}
-use Rattle.rules.proofs.Members.{member-those, member-upTo, those-same, map-same}
-use Rattle.rules.proofs.Weights.{ifFar, weight}
+use Rattle.laws.specs.Idioms.{sumOver, from, upTo, entry}
+use Rattle.laws.proofs.Linear.{sum-same}
+use Rattle.laws.proofs.Members.{member-those, member-upTo, those-same, map-same}
+use Rattle.rules.specs.Board.{ifFar, weight}
 
 -- the fifteen figures of a row, by their places
 abbrev figuresOf : Row → Row

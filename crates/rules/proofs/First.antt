@@ -5,7 +5,7 @@ use Prim.Native.Nat.{ℕ, zero, suc, _+_, _-_, _≤_, _<_}
 use native.Mathlib.Decide.{ℕ-discrete}
 use native.Mathlib.Omega.{arith}
 use borrow.Author.Tests.{eqb-true}
-use Rattle.rules.specs.Refusals.{accepted, refused, isAccepted, firstFrom, first}
+use Rattle.rules.specs.Chain.{accepted, refused, isAccepted, firstFrom, first}
 
 module _ (n : ℕ) (fault : ℕ → Bool) (m i : ℕ) where
   pub first-hit : i < m → fault (i + 1) ≡ true → firstFrom n fault (i + 1) (m - i) ≡ refused n (i + 1)

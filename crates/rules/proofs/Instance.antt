@@ -8,7 +8,6 @@ use native.Mathlib.Omega.{arith}
 use Rattle.equation.specs.Equation.{Equation, Steps, renewals, most-rounds}
 use Rattle.rules.specs.declared.Task.{Task}
 use Rattle.rules.specs.declared.Table.{Table}
-use Rattle.rules.specs.Idioms.{sumOver}
 use Rattle.rules.specs.Tasks.{T, releases, latest, taskOf, coreOf, higher, elsewhere}
 use Rattle.rules.specs.Board.{memoryOf}
 use Rattle.rules.specs.Steady.{Slower}
@@ -16,15 +15,17 @@ use Rattle.rules.specs.Response.{F}
 use Rattle.rules.specs.Judgement.{lowest}
 use Rattle.rules.specs.Others.{others, countsOf, roundLimit}
 use Rattle.rules.specs.Order.{worsens}
-use Rattle.rules.specs.Refusals.{isAccepted, checkTable}
+use Rattle.rules.specs.Chain.{isAccepted}
+use Rattle.rules.specs.Refusals.{checkTable}
 use Rattle.rules.specs.Sound.{SoundTask}
 use Rattle.rules.specs.Worsened.{Worsened}
 use Rattle.rules.proofs.Accepted.{sound}
 use Rattle.rules.proofs.SoundTasks.{sound-higher, sound-elsewhere}
-use Rattle.rules.proofs.Paired.{paired-map}
+use Rattle.laws.specs.Idioms.{sumOver}
+use Rattle.laws.proofs.Paired.{paired-map}
 use Rattle.rules.proofs.Kept.{Kept, kept-no-more, kept, kept-higher}
 use Rattle.rules.proofs.Memory.{response-equation, response-steps, response-worse}
-use Rattle.rules.proofs.Dram.{dram-steady, dram-slower}
+use Rattle.rules.proofs.Dram.{memory-steady, memory-slower}
 use Rattle.rules.proofs.Worsened.{worsened}
 
 module _ (t : Table) (accepted : isAccepted (checkTable t) ≡ true) (k : ℕ) (low : 1 ≤ k) (high : k ≤ t .tasks) where
@@ -41,12 +42,12 @@ module _ (t : Table) (accepted : isAccepted (checkTable t) ≡ true) (k : ℕ) (
   pub equation-of : Equation (F t k) (lowest t k)
   unfolding F lowest
   equation-of =
-      response-equation (dram-steady t (sound t accepted) (coreOf t k)) (taskOf t k) (higher t k) (own-sound .C-in .low)
+      response-equation (memory-steady t (sound t accepted) (coreOf t k)) (taskOf t k) (higher t k) (own-sound .C-in .low)
 
   pub steps-of : Steps (F t k) (countsOf t k)
   unfolding F
   steps-of =
-      response-steps (dram-steady t (sound t accepted) (coreOf t k)) (taskOf t k) (higher t k) period-some
+      response-steps (memory-steady t (sound t accepted) (coreOf t k)) (taskOf t k) (higher t k) period-some
 
   pub lowest-fits : lowest t k ≤ latest (taskOf t k)
   unfolding lowest latest
@@ -70,21 +71,17 @@ module _ (older newer : Table) (was : isAccepted (checkTable older) ≡ true) (i
   own-kept : Kept (older .cores) (taskOf older k) (taskOf newer k)
   own-kept = kept older newer (sound older was) (sound newer is) facts k low high
 
-  memory-slower : Slower (memoryOf older (coreOf older k)) (memoryOf newer (coreOf newer k))
-  memory-slower =
+  own-slower : Slower (memoryOf older (coreOf older k)) (memoryOf newer (coreOf newer k))
+  own-slower =
       let core = own-kept .was .core-in in
       rw (← own-kept .raised .core)
-      (dram-slower older newer (sound older was) (sound newer is) facts (coreOf older k) (core .low) (core .high))
+      (memory-slower older newer (sound older was) (sound newer is) facts (coreOf older k) (core .low) (core .high))
 
   pub not-lower : (x : ℕ) → F older k x ≤ F newer k x
   unfolding F
   not-lower x =
-      response-worse memory-slower (kept-no-more x (taskOf older k) (taskOf newer k) own-kept)
+      response-worse own-slower (kept-no-more x (taskOf older k) (taskOf newer k) own-kept)
       (paired-map (kept-no-more x) (kept-higher older newer (sound older was) (sound newer is) facts k low high))
-
-  pub lowest-not-lower : lowest older k ≤ lowest newer k
-  unfolding lowest
-  lowest-not-lower = own-kept .raised .exec
 
   pub latest-stays : latest (taskOf older k) ≡ latest (taskOf newer k)
   unfolding latest

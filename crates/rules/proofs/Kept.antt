@@ -12,7 +12,7 @@ use Rattle.rules.specs.Sound.{SoundTask, Sound}
 use Rattle.rules.specs.Worsened.{Raised, Worsened}
 use Rattle.rules.proofs.SoundTasks.{task-at, tasks-there}
 use Rattle.rules.proofs.Releases.{releases-shorter}
-use Rattle.rules.proofs.Paired.{Paired, paired-take, paired-those}
+use Rattle.laws.proofs.Paired.{Paired, paired-take, paired-those}
 
 -- an older and a newer task of one number
 pub record Kept (cores : ℕ) (i j : Task) : Type 0 where

@@ -14,28 +14,25 @@ use Rattle.rules.specs.Response.{F, decider}
 use Rattle.rules.specs.Judgement.{withDelay, lowest, roundsOf, judge, boundOf}
 use Rattle.rules.specs.Others.{countsOf, roundLimit}
 use Rattle.rules.specs.Order.{worsens}
-use Rattle.rules.specs.Refusals.{isAccepted, checkTable}
+use Rattle.rules.specs.Chain.{isAccepted}
+use Rattle.rules.specs.Refusals.{checkTable, checkJudged}
 use Rattle.rules.specs.Operations.{olderBound}
-use Rattle.rules.proofs.Starts.{Judgeable}
-use Rattle.rules.proofs.Instance.{equation-of, steps-of, lowest-fits, limit-of, not-lower, latest-stays, number-stays}
+use Rattle.rules.proofs.Starts.{Judgeable, judged-accepted}
+use Rattle.rules.proofs.Instance.{equation-of, steps-of, limit-of, not-lower, latest-stays, number-stays}
 
 module _ (t : Table) (accepted : isAccepted (checkTable t) ≡ true) (k : ℕ) (low : 1 ≤ k) (high : k ≤ t .tasks) where
-  -- point 2: the verdict from a fresh start is the least solution from 1 to D, or that there is none; and no other is
+  -- point 2: the verdict from a fresh start is the least solution from 1 to D, or that there is none
   pub fresh-right : outcome.Right (F t k) 1 (latest (taskOf t k)) (roundsOf t k 0 .verdict)
   unfolding roundsOf
-  fresh-right = point-two (equation-of t accepted k low high) (lowest-fits t accepted k low high) .0
-
-  pub fresh-only : (v : outcome.Verdict) → outcome.Right (F t k) 1 (latest (taskOf t k)) v → v ≡ roundsOf t k 0 .verdict
-  unfolding roundsOf
-  fresh-only = point-two (equation-of t accepted k low high) (lowest-fits t accepted k low high) .1
+  fresh-right = point-two (equation-of t accepted k low high) .0
 
 -- from a start that is not refused: the least solution at or above it, in the rounds of the equation, at most so many
 module _ (t : Table) (k start : ℕ) (j : Judgeable t k start) where
   pub start-right : FromStart (F t k) (lowest t k) (latest (taskOf t k)) (countsOf t k) start
   start-right =
       from-start
-      (equation-of t (j .table) k (j .number .low) (j .number .high))
-      (steps-of t (j .table) k (j .number .low) (j .number .high))
+      (equation-of t (judged-accepted t (j .judged)) k (j .number .low) (j .number .high))
+      (steps-of t (judged-accepted t (j .judged)) k (j .number .low) (j .number .high))
       (j .allowed)
 
   pub start-limit : roundsOf t k start .rounds ≤ roundLimit t k
@@ -64,14 +61,13 @@ module _ (older newer : Table) (was : isAccepted (checkTable older) ≡ true) (i
       (equation-of newer is k low high′)
       (steps-of newer is k low high′)
       (not-lower older newer was is worse k low high)
-      (rw (← stays) (lowest-fits older was k low high))
-      (lowest-fits newer is k low high′)
       (rw stays at (fresh-right older was k low high)))
 
   -- the start is not refused
   pub carried-judgeable : Judgeable newer k (olderBound older k)
+  unfolding checkJudged
   carried-judgeable = record {
-    table = is;
+    judged = is;
     number = record { low = low; high = number-stays older newer was is worse k low high };
     allowed = carries .allowed;
   }

@@ -10,7 +10,7 @@ use Rattle.rules.specs.declared.Task.{Task}
 use Rattle.rules.specs.declared.Table.{Table}
 use Rattle.rules.specs.Tasks.{noTask, tasksOf, taskOf, coreOf, isOn, higher, elsewhere}
 use Rattle.rules.specs.Sound.{Sound, SoundTask}
-use Rattle.rules.proofs.Members.{member-those, member-take}
+use Rattle.laws.proofs.Members.{member-those, member-take}
 
 -- places of the list are counted from 0, tasks from 1
 pub task-at : (t : Table) (i : ℕ) → taskOf t (suc i) ≡ getD (t .task) i noTask

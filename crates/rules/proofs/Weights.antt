@@ -1,34 +1,20 @@
--- What one request of core q costs a job of core p: JD is linear in each core's arrivals, and so in each task's. Assumes nothing.
-use mathlib.Core.Path.{_≡_, refl, sym, ap, fun-ext, _∙_}
-use mathlib.Core.Bool.{Bool, true, false, cond, not, and-comm, and-false}
+-- What one request of core q costs a job of core p: JD is linear in each core's arrivals. Assumes nothing.
+use mathlib.Core.Path.{_≡_, refl, ap, fun-ext, _∙_}
+use mathlib.Core.Bool.{Bool, true, false, not, and-comm, and-false}
 use mathlib.Core.List.{List, List·Memᴰ}
 use Prim.Native.Nat.{ℕ, _+_, _*_}
 use native.Mathlib.Omega.{arith}
-use native.Mathlib.Nat.{mul-comm}
 use lib.Dec.{eqb}
-use borrow.Author.Tests.{eq-eqb, eqb-true}
-use Rattle.rules.specs.declared.Task.{Task}
+use borrow.Author.Tests.{eq-eqb}
 use Rattle.rules.specs.declared.Table.{Table}
-use Rattle.rules.specs.Idioms.{sumOver, some, upTo, below}
-use Rattle.rules.specs.Tasks.{H, releases, tasksOf, isOn, tasksOn, elsewhere, arrivals}
+use Rattle.rules.specs.Tasks.{arrivals}
 use Rattle.rules.specs.Cores.{bit, share, setOf, isNear, isFar, near, far}
 use Rattle.rules.specs.Dram.{crossing, conflict, jinter, JD}
-use Rattle.rules.specs.Sound.{Sound}
-use Rattle.rules.proofs.Linear.{sum-same, sum-plus, sum-times, sum-zero, sum-those, sum-those-times, sum-swap, sum-only}
-use Rattle.rules.proofs.Members.{member-those}
-use Rattle.rules.proofs.Tests.{and-both}
-use Rattle.rules.proofs.SoundTasks.{sound-all}
-
--- what it costs where q is far from p, and where it is near
-abbrev pub ifFar : Table → ℕ → ℕ → ℕ
-ifFar t p q = cond (isFar t p q) (crossing t .0) 0
-
-abbrev pub ifNear : Table → ℕ → ℕ → ℕ
-ifNear t p q = cond (isNear t p q) (conflict t .0) 0
-
--- a crossing if q is far from p, a conflict if it is near, and a crossing for each core near p that q is far from
-unfoldable pub weight : Table → ℕ → ℕ → ℕ
-weight t p q = ifFar t p q + ifNear t p q + sumOver (near t p) (λ r. ifFar t r q)
+use Rattle.rules.specs.Board.{ifFar, ifNear, weight, jobAt}
+use Rattle.laws.specs.Idioms.{sumOver, some, upTo, below}
+use Rattle.laws.proofs.Linear.{sum-same, sum-plus, sum-times, sum-zero, sum-those-times, sum-swap}
+use Rattle.laws.proofs.Members.{member-those}
+use Rattle.laws.proofs.Tests.{and-both}
 
 -- ---- what a q requests of each core q cost core p, core by core
 
@@ -74,13 +60,13 @@ module _ (t : Table) (a : ℕ → ℕ) where
         charged-plus (λ q. ifFar t p q + ifNear t p q) (λ q. sumOver (near t p) (λ r. ifFar t r q)),
       )
 
-pub JD-by-core : (t : Table) (p x : ℕ) → JD t p x ≡ sumOver (upTo (t .cores)) (λ q. arrivals t q x * weight t p q)
-unfolding JD jinter
+pub JD-by-core : (t : Table) (p x : ℕ) → JD t p x ≡ jobAt t (weight t p) x
+unfolding JD jinter jobAt
 JD-by-core t p x = by-weights t (λ q. arrivals t q x) p
 
 -- ---- a core's own requests cost it nothing
 
-share-comm : (a b : ℕ) → share a b ≡ share b a
+pub share-comm : (a b : ℕ) → share a b ≡ share b a
 unfolding share
 share-comm a b = ap (λ (f : ℕ → Bool). some f (below 16)) (fun-ext (λ k. and-comm (bit a k) (bit b k)))
 
@@ -104,44 +90,3 @@ module _ (t : Table) where
   weight-self p =
       let others = sum-same (λ r. ifFar t r p) (λ r. 0) (near t p) (λ r m. rw (near-not-far p r m)) in
       rw (self-not-far p, self-not-near p) (omega (arith, others, sum-zero (near t p)))
-
--- ---- JD, task by task
-
--- what a task's jobs in x cost, at a price for each request
-abbrev jobs : ℕ → Task → ℕ → ℕ
-jobs x j price = (releases j x + 1) * (H j * price)
-
-module _ (t : Table) (x : ℕ) where
-  arrivals-by-task : (q price : ℕ) → arrivals t q x * price ≡ sumOver (tasksOf t) (λ j. cond (isOn q j) (jobs x j price) 0)
-  unfolding arrivals tasksOn
-  arrivals-by-task q price =
-      let asked : Task → ℕ = λ j. (releases j x + 1) * H j in
-      mul-comm _ price
-      ∙ sym (sum-times price asked (tasksOn t q))
-      ∙ sum-same (λ j. price * asked j) (λ j. jobs x j price) (tasksOn t q) (λ j m. omega arith)
-      ∙ sum-those (isOn q) (λ j. jobs x j price) (tasksOf t)
-
-  module _ (p : ℕ) where
-    -- the tasks on p itself cost nothing
-    own-free : (j : Task) → jobs x j (weight t p (j .core)) ≡ cond (not (isOn p j)) (jobs x j (weight t p (j .core))) 0
-    own-free j = go (isOn p j) refl
-      where
-        go : (b : Bool) → isOn p j ≡ b → jobs x j (weight t p (j .core)) ≡ cond (not b) (jobs x j (weight t p (j .core))) 0
-        go true e = rw (eqb-true (j .core) p e, weight-self t p) (omega arith)
-        go false e = refl
-
-    JD-of-all : Sound t → JD t p x ≡ sumOver (tasksOf t) (λ j. jobs x j (weight t p (j .core)))
-    JD-of-all s =
-        JD-by-core t p x
-        ∙ sum-same _ _ (upTo (t .cores)) (λ q m. arrivals-by-task q (weight t p q))
-        ∙ sum-swap (λ q j. cond (isOn q j) (jobs x j (weight t p q)) 0) (upTo (t .cores)) (tasksOf t)
-        ∙ sum-same _ _ (tasksOf t)
-        (λ j m. let core = sound-all t s m .core-in in sum-only (λ q. jobs x j (weight t p q)) (j .core) (t .cores) (core .low) (core .high))
-
-pub JD-by-task : (t : Table) → Sound t → (p x : ℕ)
-    → JD t p x ≡ sumOver (elsewhere t p) (λ j. (releases j x + 1) * (H j * weight t p (j .core)))
-unfolding elsewhere
-JD-by-task t s p x =
-    JD-of-all t x p s
-    ∙ sum-same _ _ (tasksOf t) (λ j m. own-free t x p j)
-    ∙ sym (sum-those (λ j. not (isOn p j)) (λ j. jobs x j (weight t p (j .core))) (tasksOf t))

@@ -6,8 +6,8 @@ use Rattle.rules.specs.declared.Task.{Task}
 use Rattle.rules.specs.declared.Table.{Table}
 use Rattle.rules.specs.Order.{sameBoard, worseTask, worsens}
 use Rattle.rules.specs.Worsened.{Alike, Raised, Worsened}
-use Rattle.rules.proofs.Members.{upTo-has}
-use Rattle.rules.proofs.Tests.{and-both, every-member}
+use Rattle.laws.proofs.Members.{upTo-has}
+use Rattle.laws.proofs.Tests.{and-both, every-member}
 
 raised : (i j : Task) → worseTask i j ≡ true → Raised i j
 unfolding worseTask

@@ -4,7 +4,7 @@ use mathlib.Core.Bool.{Bool, _&&_}
 use lib.Dec.{leb, eqb}
 use Rattle.rules.specs.declared.Task.{Task}
 use Rattle.rules.specs.declared.Table.{Table}
-use Rattle.rules.specs.Idioms.{every, upTo, entry}
+use Rattle.laws.specs.Idioms.{every, upTo, entry}
 use Rattle.rules.specs.Tasks.{C, T, D, H, taskOf}
 use Rattle.rules.specs.Cores.{setOf}
 

@@ -3,7 +3,7 @@ use mathlib.Core.List.{List, _++_, map}
 use Prim.Native.Nat.{ℕ, _+_, _-_}
 use Rattle.rules.specs.declared.Task.{Task}
 use Rattle.rules.specs.declared.Table.{Table}
-use Rattle.rules.specs.Idioms.{sumOver}
+use Rattle.laws.specs.Idioms.{sumOver}
 use Rattle.rules.specs.Tasks.{releases, latest, taskOf, coreOf, higher, elsewhere}
 
 -- the higher tasks of its core, and the tasks elsewhere

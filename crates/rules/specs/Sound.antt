@@ -4,13 +4,10 @@ use Prim.Native.Nat.{ℕ, _≤_, _<_, _^_}
 use mathlib.Core.Path.{_≡_}
 use Rattle.rules.specs.declared.Task.{Task}
 use Rattle.rules.specs.declared.Table.{Table}
+use Rattle.laws.specs.Idioms.{Within}
 use Rattle.rules.specs.Timing.{Row, tCK, tRP, tRCD, CL, WL, BL, tWTR, tWR, tRRD, tFAW, tRTRS, Ncols}
 use Rattle.rules.specs.Tasks.{C, T, D, H, taskOf}
 use Rattle.rules.specs.Cores.{setOf}
-
-pub record Within (lowest highest x : ℕ) : Type 0 where
-  pub low : lowest ≤ x
-  pub high : x ≤ highest
 
 pub record SoundRow (w : Row) : Type 0 where
   pub tCK-in : Within 1 5000 (tCK w)

@@ -4,7 +4,7 @@ use Prim.Native.Nat.{ℕ, _≤_}
 use mathlib.Core.Path.{_≡_}
 use Rattle.rules.specs.declared.Task.{Task}
 use Rattle.rules.specs.declared.Table.{Table}
-use Rattle.rules.specs.Idioms.{entry}
+use Rattle.laws.specs.Idioms.{entry}
 use Rattle.rules.specs.Tasks.{C, T, D, H, taskOf}
 use Rattle.rules.specs.Cores.{setOf}
 

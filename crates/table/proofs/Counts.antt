@@ -5,9 +5,10 @@ use mathlib.Core.Bool.{true, false, _&&_}
 use lib.Dec.{eqb}
 use borrow.Author.Tests.{not-false}
 use Rattle.rules.specs.declared.Table.{Table}
-use Rattle.rules.specs.Idioms.{within}
-use Rattle.rules.specs.Refusals.{refused, fourthAllowed, countsFault, checkBoard, checkTable}
-use Rattle.rules.proofs.Tests.{and-both, inside}
+use Rattle.rules.specs.Chain.{refused}
+use Rattle.rules.specs.Refusals.{fourthAllowed, countsFault, checkBoard, checkTable}
+use Rattle.laws.specs.Idioms.{within}
+use Rattle.laws.proofs.Tests.{and-both, inside}
 use Rattle.table.specs.Faults.{figuresChecked}
 
 module _ (t : Table) where

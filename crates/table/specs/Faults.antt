@@ -6,8 +6,9 @@ use lib.Dec.{eqb}
 use Rattle.rules.specs.declared.Task.{Task}
 use Rattle.rules.specs.declared.Table.{Table}
 use Rattle.rules.specs.declared.Refusal.{Refusal}
-use Rattle.rules.specs.Idioms.{within}
-use Rattle.rules.specs.Refusals.{_orElse_, first, timeFault, requestFault, setFault, checkTiming, checkTasks}
+use Rattle.laws.specs.Idioms.{within}
+use Rattle.rules.specs.Chain.{_orElse_, first}
+use Rattle.rules.specs.Refusals.{timeFault, requestFault, setFault, checkTiming, checkTasks}
 
 -- 9, 10, and else 11
 unfoldable pub taskFault : ℕ → ℕ → Task → Bool

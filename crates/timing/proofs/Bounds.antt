@@ -5,7 +5,7 @@ use native.Mathlib.Nat.{mul-le-mul, div-le-of-le-mul, max-le}
 use native.Mathlib.Omega.{arith}
 use lib.Dec.{eqb}
 use Rattle.rules.specs.declared.Cycles.{Cycles}
-use Rattle.rules.specs.Idioms.{_/↑_}
+use Rattle.laws.specs.Idioms.{_/↑_}
 use Rattle.rules.specs.Timing.{Row, tCK, CL, WL, BL, tWTR, Ncols, Ncap, unknown}
 use Rattle.rules.specs.Units.{_⊕_, inTime}
 use Rattle.rules.specs.Delays.{pre, act, readwrite, hit, reopen, conf, run, window}

@@ -2,7 +2,7 @@
 use mathlib.Core.Path.{_≡_, sym, _∙_}
 use borrow.Author.Tests.{eq-eqb, ne-eqb}
 use Rattle.rules.specs.declared.Refusal.{Refusal}
-use Rattle.rules.specs.Refusals.{_orElse_}
+use Rattle.rules.specs.Chain.{_orElse_}
 use Rattle.rules.proofs.Chain.{first-refuses, second-decides}
 
 module _ (a b : Refusal) {x : Refusal} (is : x ≡ a) where

@@ -6,7 +6,8 @@ use lib.Dec.{leb, ltb, eqb}
 use borrow.Author.Tests.{le-leb, lt-leb, lt-ltb, le-ltb, eq-eqb, ne-eqb}
 use Rattle.rules.specs.Timing.{Row, CL, WL, BL, tWTR, tWR, tRCD, tRAS, tRTP, Ncols}
 use Rattle.rules.specs.Delays.{hit}
-use Rattle.rules.specs.Refusals.{accepted, refused, firstFrom, first, relationsHold, relationFault}
+use Rattle.rules.specs.Chain.{accepted, refused, firstFrom, first}
+use Rattle.rules.specs.Refusals.{relationsHold, relationFault}
 
 module _ (w : Row) where
   relations :

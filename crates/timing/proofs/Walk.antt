@@ -4,7 +4,7 @@ use mathlib.Core.Path.{_≡_, sym, _∙_}
 use mathlib.Core.Bool.{Bool, true, false}
 use native.Mathlib.Nat.{sub-zero}
 use native.Mathlib.Omega.{arith}
-use Rattle.rules.specs.Refusals.{accepted, refused, firstFrom, first}
+use Rattle.rules.specs.Chain.{accepted, refused, firstFrom, first}
 use Rattle.rules.proofs.First.{first-hit, first-next, first-done}
 
 pub record Passed (n : ℕ) (fault : ℕ → Bool) (m i : ℕ) : Type 0 where

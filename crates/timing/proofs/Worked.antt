@@ -6,7 +6,7 @@ use borrow.Author.Tests.{eq-eqb, ne-eqb}
 use Rattle.rules.specs.Timing.{Row, CL, WL, BL, tWTR, tRRD, tFAW, tRTRS, Ncols, Ncap, unknown}
 use Rattle.rules.specs.Units.{cycles}
 use Rattle.rules.specs.Delays.{act, readwrite, window}
-use Rattle.rules.proofs.Signed.{larger-cut}
+use Rattle.laws.proofs.Signed.{larger-cut}
 
 module _ (w : Row) where
   pub act-cut : act w ≡ cycles (max (tRRD w) (tFAW w - 3 * tRRD w))

@@ -2,7 +2,7 @@
 use Prim.Native.Nat.{ℕ}
 use mathlib.Core.Bool.{Bool, not, _&&_, _||_}
 use lib.Dec.{eqb}
-use Rattle.rules.specs.Idioms.{within}
+use Rattle.laws.specs.Idioms.{within}
 
 abbrev pub notBurst : ℕ → Bool
 notBurst x = not (eqb x 4 || eqb x 8 || eqb x 16)

@@ -6,9 +6,9 @@ use lib.Dec.{leb}
 use lib.ListN.{length}
 use lib.Seq.{sets}
 use Rattle.rules.specs.declared.Refusal.{Refusal}
-use Rattle.rules.specs.Idioms.{text}
-use Rattle.rules.specs.Listing.{decimal}
-use Rattle.rules.specs.Refusals.{isAccepted}
+use Rattle.laws.specs.Idioms.{text}
+use Rattle.laws.specs.Decimal.{decimal}
+use Rattle.rules.specs.Chain.{isAccepted}
 
 -- the buffer's bytes, and how many of them are the line's
 pub record Line : Type 0 where

@@ -2,7 +2,7 @@
 use rules::Refusal;
 ghost use mathlib.Core.Path.{_≡_};
 ghost use lib.ListN.{take};
-ghost use Rattle.rules.specs.Listing.{decimal};
+ghost use Rattle.laws.specs.Decimal.{decimal};
 ghost use Rattle.words.specs.Line.{line, add, addRefusal, addRefusalOr};
 
 pub fn word(buf: &mut [u8], at: usize, w: &[u8]) -> usize

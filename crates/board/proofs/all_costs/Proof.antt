@@ -5,7 +5,7 @@ use Prim.Native.Nat.{_-_, _≤_}
 use borrow.Author.Needs.{needs}
 use native.Mathlib.Omega.{arith}
 use Rattle.rules.specs.declared.Table.{Table}
-use Rattle.rules.specs.Idioms.{from, upTo, filled}
+use Rattle.laws.specs.Idioms.{from, upTo, filled}
 use Rattle.timing.specs.Figures.{figuresOf}
 use Rattle.board.specs.Costs.{costsOf, noCosts}
 use Rattle.board.proofs.Places.{place-next}

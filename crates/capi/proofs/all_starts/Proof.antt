@@ -6,7 +6,7 @@ use borrow.Author.Needs.{needs}
 use borrow.Author.Tests.{ltb-true, ltb-false}
 use lib.ListN.{length, take}
 use lib.Seq.{take-all}
-use Rattle.rules.specs.Idioms.{filled}
+use Rattle.laws.specs.Idioms.{filled}
 use Rattle.capi.proofs.Filled.{filled-next}
 use Rattle.capi.proofs.all_starts.Statement.{statement}
 use Rattle.capi.proofs.all_starts.Tie as tie

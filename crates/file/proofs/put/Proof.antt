@@ -6,7 +6,7 @@ use native.Mathlib.Omega.{arith}
 use borrow.Author.Needs.{needs}
 use lib.ListN.{length, length-set}
 use lib.Seq.{sets}
-use Rattle.rules.specs.Idioms.{bytes}
+use Rattle.laws.specs.Idioms.{bytes}
 use Rattle.file.proofs.Stores.{byte-next}
 use Rattle.file.proofs.put.Statement.{statement}
 use Rattle.file.proofs.put.Tie as tie

@@ -6,7 +6,7 @@ use native.Mathlib.Omega.{arith}
 use borrow.Author.Needs.{needs}
 use lib.ListN.{length, take}
 use lib.Seq.{sets}
-use Rattle.rules.specs.Idioms.{joined}
+use Rattle.laws.specs.Idioms.{joined}
 use Rattle.rules.specs.Tasks.{noTask}
 use Rattle.rules.specs.File.{recordBytes}
 use Rattle.file.proofs.Runs.{unmapped}

@@ -5,7 +5,7 @@ use mathlib.Core.Logic.{inl, inr}
 use native.Mathlib.Omega.{arith}
 use borrow.Author.Needs.{needs}
 use borrow.Author.Tests.{eq-eqb, ne-eqb}
-use Rattle.rules.specs.Refusals.{isAccepted}
+use Rattle.rules.specs.Chain.{isAccepted}
 use Rattle.rules.specs.File.{checkWhole}
 use Rattle.file.proofs.Reading.{not-whole, counted-out, whole-length, read-refused, read-accepted}
 use Rattle.file.proofs.read.Statement.{statement}

@@ -3,7 +3,7 @@ use Prim.Native.Nat.{_+_, _-_, _≤_}
 use mathlib.Core.Path.{_≡_}
 use native.Mathlib.Omega.{arith}
 use borrow.Author.Needs.{needs}
-use Rattle.rules.specs.Idioms.{from, filled}
+use Rattle.laws.specs.Idioms.{from, filled}
 use Rattle.rules.specs.Tasks.{noTask}
 use Rattle.file.specs.Places.{tasksTo}
 use Rattle.file.proofs.Steps.{part-record, task-next}

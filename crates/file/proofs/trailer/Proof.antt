@@ -5,7 +5,7 @@ use native.Mathlib.Omega.{arith}
 use borrow.Author.Needs.{needs}
 use lib.ListN.{length, take}
 use lib.Seq.{length-take-le}
-use Rattle.rules.specs.Idioms.{number, part}
+use Rattle.laws.specs.Idioms.{number, part}
 use Rattle.rules.specs.File.{sumOf}
 use Rattle.file.proofs.Checks.{wrong-count, wrong-sum, wrong-running, trailer-right}
 use Rattle.file.proofs.trailer.Statement.{statement}

@@ -6,7 +6,7 @@ use borrow.Author.Needs.{needs}
 use borrow.Author.Tests.{eq-eqb, ne-eqb}
 use Prim.Native.Nat.{_+_, _-_, _≤_}
 use lib.ListN.{length}
-use Rattle.rules.specs.Refusals.{isAccepted}
+use Rattle.rules.specs.Chain.{isAccepted}
 use Rattle.rules.specs.Operations.{checkView}
 use Rattle.file.proofs.Reading.{view-nothing, view-record, viewed-length, viewed-task}
 use Rattle.file.proofs.Steps.{part-record}

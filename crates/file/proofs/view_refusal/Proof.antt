@@ -5,7 +5,7 @@ use mathlib.Core.Logic.{inl, inr}
 use native.Mathlib.Omega.{arith}
 use borrow.Author.Needs.{needs}
 use borrow.Author.Tests.{eq-eqb, ne-eqb}
-use Rattle.rules.specs.Refusals.{isAccepted}
+use Rattle.rules.specs.Chain.{isAccepted}
 use Rattle.rules.specs.Operations.{checkFile}
 use Rattle.file.proofs.Reading.{read-refusal, file-length, view-refused, asked-out, asked-in}
 use Rattle.file.proofs.view_refusal.Statement.{statement}

@@ -6,7 +6,8 @@ use native.Mathlib.Omega.{arith}
 use borrow.Author.Needs.{needs}
 use borrow.Author.Tests.{eq-eqb, ne-eqb}
 use lib.ListN.{length}
-use Rattle.rules.specs.Refusals.{isAccepted, checkTable}
+use Rattle.rules.specs.Chain.{isAccepted}
+use Rattle.rules.specs.Refusals.{checkTable}
 use Rattle.rules.specs.File.{body, encode}
 use Rattle.rules.specs.Sound.{Sound}
 use Rattle.rules.proofs.Accepted.{sound}

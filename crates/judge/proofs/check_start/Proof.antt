@@ -3,7 +3,8 @@ use borrow.Author.Needs.{needs}
 use mathlib.Core.Path.{_≡_, _∙_}
 use mathlib.Core.Bool.{true}
 use native.Mathlib.Omega.{arith}
-use Rattle.rules.specs.Refusals.{isAccepted, checkTable}
+use Rattle.rules.specs.Chain.{isAccepted}
+use Rattle.rules.specs.Refusals.{checkTable}
 use Rattle.rules.proofs.Accepted.{sound}
 use Rattle.judge.proofs.Links.{passes, refuses, start-table, start-low, start-high, start-late, start-passes}
 use Rattle.judge.proofs.check_start.Statement.{statement}

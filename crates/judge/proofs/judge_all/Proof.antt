@@ -2,7 +2,8 @@
 use borrow.Author.Needs.{needs}
 use mathlib.Core.Path.{_≡_, _∙_, ap}
 use mathlib.Core.Bool.{true}
-use Rattle.rules.specs.Refusals.{isAccepted, checkTable}
+use Rattle.rules.specs.Chain.{isAccepted}
+use Rattle.rules.specs.Refusals.{checkTable}
 use Rattle.rules.proofs.Accepted.{sound}
 use Rattle.rounds.specs.Numbered.{noneJudged, firstLate}
 use Rattle.judge.proofs.Links.{passes, refuses, all-table, all-late, all-tasks}

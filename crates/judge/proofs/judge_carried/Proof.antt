@@ -7,8 +7,9 @@ use Prim.Native.Nat.{ℕ}
 use Rattle.rules.specs.declared.Answer.{Answer}
 use Rattle.rules.specs.declared.Refusal.{Refusal}
 use Rattle.rules.specs.declared.Rejudged.{Rejudged}
-use Rattle.rules.specs.Idioms.{entry}
-use Rattle.rules.specs.Refusals.{isAccepted, checkTable}
+use Rattle.laws.specs.Idioms.{entry}
+use Rattle.rules.specs.Chain.{isAccepted}
+use Rattle.rules.specs.Refusals.{checkTable}
 use Rattle.rules.specs.Operations.{answersFrom, fresh}
 use Rattle.judge.specs.Carried.{notRejudged}
 use Rattle.judge.proofs.Links.{passes, refuses, carried-promise, again-older, again-newer, again-carried, again-fresh}

@@ -4,9 +4,9 @@ use mathlib.Core.Path.{_≡_, _∙_, ap}
 use mathlib.Core.Bool.{true}
 use Rattle.rules.specs.declared.Refusal.{Refusal}
 use Rattle.rules.specs.declared.Judged.{Judged}
-use Rattle.rules.specs.Refusals.{isAccepted}
 use Rattle.rounds.specs.Numbered.{notJudged}
-use Rattle.judge.specs.Links.{checkStart}
+use Rattle.rules.specs.Chain.{isAccepted}
+use Rattle.rules.specs.Refusals.{checkStart}
 use Rattle.judge.proofs.Links.{passes, refuses, start-sound, start-within, start-fits, one-start, one-high, one-answer}
 use Rattle.judge.proofs.judge_one.Statement.{statement}
 use Rattle.judge.proofs.judge_one.Tie as tie

@@ -6,8 +6,7 @@ use mathlib.Core.List.{map}
 use Prim.Native.Nat.{_+_, _-_, _≤_}
 use native.Mathlib.Omega.{arith}
 use lib.ListN.{length-take, getD}
-use Rattle.rules.specs.Idioms.{filled, from, upTo}
-use Rattle.rules.specs.Sound.{Within}
+use Rattle.laws.specs.Idioms.{filled, from, upTo, Within}
 use Rattle.rules.specs.Judgement.{misses}
 use Rattle.board.proofs.Places.{place-next}
 use Rattle.rounds.specs.Numbered.{climbedFor, firstHigh}

@@ -4,7 +4,7 @@ use mathlib.Core.Bool.{not}
 use lib.Dec.{eqb}
 use borrow.Author.Needs.{needs}
 use borrow.Author.Tests.{eq-eqb, ne-eqb, not-true, not-false}
-use Rattle.rules.specs.Idioms.{within}
+use Rattle.laws.specs.Idioms.{within}
 use Rattle.rules.specs.Refusals.{countsFault, fourthAllowed}
 use Rattle.table.proofs.counts_fault.Statement.{statement}
 use Rattle.table.proofs.counts_fault.Tie as tie

@@ -2,7 +2,7 @@
 use mathlib.Core.Path.{sym, _∙_}
 use borrow.Author.Needs.{needs}
 use borrow.Author.Tests.{not-true, not-false}
-use Rattle.rules.specs.Idioms.{within}
+use Rattle.laws.specs.Idioms.{within}
 use Rattle.rules.specs.Tasks.{T, D}
 use Rattle.rules.specs.Refusals.{timeFault}
 use Rattle.table.proofs.time_fault.Statement.{statement}

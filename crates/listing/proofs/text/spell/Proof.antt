@@ -5,7 +5,7 @@ use Prim.Native.Nat.{suc, _-_, _^_, _≤_, _<_}
 use native.Mathlib.Omega.{arith}
 use borrow.Author.Needs.{needs}
 use lib.ListN.{length, length-set}
-use Rattle.rules.specs.Listing.{decimal}
+use Rattle.laws.specs.Decimal.{decimal}
 use Rattle.listing.proofs.Decimal.{spelled, spell-none, spell-next, spell-last, place-before, digit-fewer}
 use Rattle.listing.proofs.text.spell.Statement.{statement}
 use Rattle.listing.proofs.text.spell.Tie as tie

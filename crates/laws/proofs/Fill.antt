@@ -7,7 +7,7 @@ use native.Mathlib.Nat.{sub-zero}
 use native.Mathlib.Numerals.{add-one}
 use lib.ListN.{length, length-append, replicate, set}
 use lib.Seq.{set-at}
-use Rattle.rules.specs.Idioms.{filled}
+use Rattle.laws.specs.Idioms.{filled}
 
 module _ {A : Type 0} (n : ℕ) (d : A) where
   pub fill-none : filled n d [] ≡ replicate n d

@@ -7,7 +7,7 @@ use native.Mathlib.Omega.{arith}
 use native.Mathlib.Decide.{ℕ-discrete}
 use lib.Dec.{eqb}
 use borrow.Author.Tests.{eq-eqb, ne-eqb}
-use Rattle.rules.specs.Idioms.{sumOver, those, from, upTo}
+use Rattle.laws.specs.Idioms.{sumOver, those, from, upTo}
 
 times-cond : (n : ℕ) (b : Bool) (c : ℕ) → cond b (n * c) 0 ≡ n * cond b c 0
 times-cond n true c = refl

@@ -6,7 +6,7 @@ use Prim.Native.Nat.{ℕ, zero, suc, _+_, _≤_, _<_, zero-le, suc-le-suc}
 use native.Mathlib.Omega.{arith}
 use native.Mathlib.Decide.{ℕ-discrete}
 use lib.ListN.{take, getD}
-use Rattle.rules.specs.Idioms.{those, from, upTo}
+use Rattle.laws.specs.Idioms.{those, from, upTo}
 
 module _ {A : Type 0} where
   -- of those that pass a test: it is one of all, and passes

@@ -5,12 +5,8 @@ use Prim.Native.Nat.{ℕ, zero, suc, _+_, _*_, _/_, _%_, _^_, _<_}
 use native.Mathlib.Omega.{arith}
 use native.Mathlib.Nat.{pow-suc}
 use lib.ListN.{length}
-use Rattle.rules.specs.Idioms.{number, bytes}
-
--- every member is a byte
-pub data Bytes : List ℕ → Type 0 where
-  none : Bytes []
-  more : {b : ℕ} {l : List ℕ} → b < 256 → Bytes l → Bytes (b ∷ l)
+use Rattle.laws.specs.Idioms.{number, bytes}
+use Rattle.laws.specs.Bytes.{Bytes, none, more}
 
 pub bytes-length : (k n : ℕ) → length (bytes k n) ≡ k
 unfolding bytes

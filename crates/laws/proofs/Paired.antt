@@ -6,7 +6,7 @@ use Prim.Native.Nat.{ℕ, zero, suc, _≤_, _<_, zero-le, suc-le-suc}
 use native.Mathlib.Omega.{arith}
 use native.Mathlib.Nat.{le-of-suc-le-suc}
 use lib.ListN.{length, take, getD}
-use Rattle.rules.specs.Idioms.{sumOver, those}
+use Rattle.laws.specs.Idioms.{sumOver, those}
 
 pub data Paired {A : Type 0} (R : A → A → Type 0) : List A → List A → Type 0 where
   none : Paired R [] []
