@@ -20,7 +20,7 @@ use Rattle.timing.proofs.Bounds.{bounded}
 use Rattle.board.specs.Masks.{asBit}
 use Rattle.board.specs.Costs.{rowPart}
 use Rattle.board.proofs.Masks.{counted}
-use Rattle.board.proofs.Places.{from-length}
+use Rattle.laws.proofs.Runs.{from-length}
 use Rattle.board.proofs.Requests.{RD-by-weights, row-high}
 
 -- ---- sums and counts

@@ -21,7 +21,7 @@ use Rattle.timing.specs.Figures.{figuresOf, FiguresBounded}
 use Rattle.board.specs.declared.CoreCosts.{CoreCosts}
 use Rattle.board.specs.Costs.{costsOf, rowPart, Shows}
 use Rattle.board.proofs.Masks.{mask-ones, mask-none}
-use Rattle.board.proofs.Places.{place-next}
+use Rattle.laws.proofs.Places.{place-next}
 use Rattle.board.proofs.Weighed.{fars-at}
 
 -- ---- RD

@@ -23,7 +23,7 @@ use Rattle.timing.specs.Figures.{figuresOf, FiguresBounded}
 use Rattle.timing.proofs.Bounds.{bounded}
 use Rattle.board.specs.Masks.{asBit, mask, farMasks}
 use Rattle.board.specs.Costs.{Shows}
-use Rattle.board.proofs.Places.{place-of}
+use Rattle.laws.proofs.Places.{place-of}
 use Rattle.board.proofs.Masks.{mask-ones, mask-bit, mask-and}
 
 -- ---- far goes both ways

@@ -15,8 +15,8 @@ use Rattle.rules.proofs.Accepted.{sound}
 use Rattle.rules.proofs.Chain.{both-accepted, first-refuses, second-decides}
 use Rattle.capi.specs.Codes.{codeOf}
 use Rattle.capi.specs.Columns.{checkJudging, answersOf, columnAfter, Columns, JudgedFile}
-use Rattle.capi.proofs.Filled.{take-filled}
-use Rattle.capi.proofs.Starts.{lent-starts}
+use Rattle.laws.proofs.Filled.{take-filled}
+use Rattle.rules.proofs.LentStarts.{lent-starts}
 
 -- ---- by what a refusal is decided, and which answers there are
 

@@ -1,13 +1,9 @@
 -- The laws that the proofs of the functions cite, and what the promises say.
 --     Laid      answers stored into an output, one after the other
---     Filled    a list's members in n places
---     Starts    a judgement looks only at the starts of its tasks
 --     Judging   the three ways in which a file's judgement ends
 --     Record    what is known of a file whose record may be shown
 --     Promises  two results that a promise allows coincide, and a 0 says one thing
 pub mod Laid
-pub mod Filled
-pub mod Starts
 pub mod Judging
 pub mod Record
 pub mod Promises

@@ -1,8 +1,8 @@
 -- A table and the same table cleared meet the same refusals. Assumes nothing.
 use mathlib.Core.Path.{_≡_, refl, ap, _∙_}
-use mathlib.Core.Bool.{Bool, not, _||_}
+use mathlib.Core.Bool.{not, _||_}
 use mathlib.Core.List.{List}
-use Prim.Native.Nat.{ℕ, zero, suc, _+_, _-_, _^_, _≤_, _<_}
+use Prim.Native.Nat.{ℕ, _-_, _^_, _≤_, _<_}
 use native.Mathlib.Omega.{arith}
 use lib.Dec.{ltb, eqb}
 use lib.ListN.{length, take, replicate, List·getD-append}
@@ -13,20 +13,11 @@ use Rattle.rules.specs.declared.Table.{Table}
 use Rattle.laws.specs.Idioms.{entry, filled, within}
 use Rattle.rules.specs.Tasks.{noTask, taskOf}
 use Rattle.rules.specs.Cores.{setOf}
-use Rattle.rules.specs.Chain.{_orElse_, given, firstFrom, first}
+use Rattle.rules.specs.Chain.{_orElse_, given}
 use Rattle.rules.specs.Refusals.{countsFault, checkTiming, setFault, coreFault, timeFault, requestFault, checkBoard, checkTasks, checkTable}
 use Rattle.rules.proofs.Accepted.{sound}
+use Rattle.rules.proofs.First.{first-same}
 use Rattle.claims.specs.Files.{AcceptedTable, Shape, cleared}
-
--- two tests that agree on the places that are looked at have the same first fault
-module _ (n : ℕ) {f g : ℕ → Bool} where
-  from-same : (k m : ℕ) → ((i : ℕ) → k ≤ i → i < k + m → f i ≡ g i) → firstFrom n f k m ≡ firstFrom n g k m
-  unfolding firstFrom
-  from-same k zero h = refl
-  from-same k (suc m) h = rw (h k (omega arith) (omega arith), from-same (k + 1) m (λ i low high. h i (omega arith) (omega arith)))
-
-  pub first-same : (m : ℕ) → ((i : ℕ) → 1 ≤ i → i ≤ m → f i ≡ g i) → first n f m ≡ first n g m
-  first-same m h = from-same 1 m (λ i low high. h i low (omega arith))
 
 -- a used place is kept, whatever the others are filled with
 kept : {A : Type 0} (m n : ℕ) (d fill : A) (l : List A) (p : ℕ) → n ≤ length l → 1 ≤ p → p ≤ n → entry d (filled m fill (take n l)) p ≡ entry d l p

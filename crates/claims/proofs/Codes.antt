@@ -12,8 +12,8 @@ use Rattle.rules.specs.File.{recordSize, recordBytes, recordTask}
 use Rattle.laws.specs.Idioms.{number, bytes, part}
 use Rattle.laws.specs.Bytes.{Bytes}
 use Rattle.laws.proofs.Bytes.{bytes-length, bytes-are, number-bytes}
-use Rattle.claims.proofs.ByteLists.{bytes-append, known-by-number, part-join, part-known}
-use Rattle.claims.proofs.Rows.{Code}
+use Rattle.laws.proofs.ByteLists.{bytes-append, known-by-number, part-join, part-known}
+use Rattle.laws.proofs.Rows.{Code}
 
 pub number-code : (k : ℕ) → Code k (bytes k) number
 number-code k = record { sized = bytes-length k; again = known-by-number k }

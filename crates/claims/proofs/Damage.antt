@@ -9,7 +9,7 @@ use lib.ListN.{length, take, getD, set, length-set}
 use lib.Seq.{length-take-le, getD-take, take-set-le, take-set-lt, drop-set-lt, getD-set-same}
 use Rattle.rules.specs.File.{trailer}
 use Rattle.laws.specs.Bytes.{Bytes}
-use Rattle.claims.proofs.ByteLists.{bytes-set}
+use Rattle.laws.proofs.ByteLists.{bytes-set}
 use Rattle.claims.proofs.ByteSums.{sum-set}
 use Rattle.claims.proofs.Whole.{Whole, before, before-and-trailer}
 

@@ -12,7 +12,7 @@ use Rattle.rules.proofs.Accepted.{sound}
 use Rattle.laws.specs.Idioms.{from, filled, number, part}
 use Rattle.laws.specs.Bytes.{Bytes}
 use Rattle.claims.specs.Files.{AcceptedTable, Shape, cleared}
-use Rattle.claims.proofs.Rows.{written-back}
+use Rattle.laws.proofs.Rows.{written-back}
 use Rattle.claims.proofs.Codes.{number-code, task-code}
 use Rattle.claims.proofs.Whole.{Whole, before, before-and-trailer}
 use Rattle.claims.proofs.Places.{header, figureBytes, setBytes, taskBytes, body-parts, figure-ladder, set-ladder, record-ladder, records-after-sets, trailer-after-records, parts-joined}

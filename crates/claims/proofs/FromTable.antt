@@ -13,8 +13,8 @@ use Rattle.laws.specs.Idioms.{below, upTo, filled, number, bytes, part}
 use Rattle.laws.specs.Bytes.{Bytes, none, more}
 use Rattle.laws.proofs.Bytes.{bytes-are, number-bytes}
 use Rattle.claims.specs.Files.{AcceptedTable, Shape, cleared}
-use Rattle.claims.proofs.ByteLists.{bytes-append, bytes-joined}
-use Rattle.claims.proofs.Rows.{written-length, read-back}
+use Rattle.laws.proofs.ByteLists.{bytes-append, bytes-joined}
+use Rattle.laws.proofs.Rows.{written-length, read-back}
 use Rattle.claims.proofs.Codes.{number-code, task-code, record-bytes, task-known}
 use Rattle.claims.proofs.Whole.{Whole, trailer-length, trailed-whole}
 use Rattle.claims.proofs.Places.{header, figureBytes, setBytes, taskBytes, body-parts, encode-parts, figure-ladder, set-ladder, record-ladder, sets-after-figures, records-after-sets, trailer-after-records}

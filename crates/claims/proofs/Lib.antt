@@ -1,7 +1,5 @@
 -- The demands of specs/ hold. What the proofs on files stand on, in the order of its parts:
---     ByteLists  lists of bytes, and parts that are known by their number
 --     ByteSums   the two sums of a trailer
---     Rows       values that are written in rows of one size, and read back
 --     Codes      a number in k bytes, and a task in a record
 --     Places     the parts of a file and where each row of them stands
 --     Whole      what refusals 1 to 4 leave of a file
@@ -17,9 +15,7 @@
 --     Point2     what a verdict says
 --     Point3     a newer table judged from the older one's bounds
 --     Exact      every promise allows one result
-pub mod ByteLists
 pub mod ByteSums
-pub mod Rows
 pub mod Codes
 pub mod Places
 pub mod Whole

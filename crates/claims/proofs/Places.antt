@@ -9,7 +9,7 @@ use Rattle.rules.specs.declared.Table.{Table}
 use Rattle.laws.specs.Idioms.{joined, bytes, part}
 use Rattle.rules.specs.Tasks.{tasksOf}
 use Rattle.rules.specs.File.{setsAt, recordsAt, recordSize, recordAt, fileLength, recordBytes, trailer, body, encode}
-use Rattle.claims.proofs.Rows.{Ladder}
+use Rattle.laws.proofs.Rows.{Ladder}
 
 unfoldable pub header : Table → List ℕ
 header t = t .cores ∷ t .partitions ∷ t .tasks ∷ t .fourth ∷ []

@@ -3,17 +3,15 @@ use mathlib.Core.Path.{_≡_, refl}
 use mathlib.Core.Bool.{true}
 use Prim.Native.Nat.{ℕ, _≤_}
 use native.Mathlib.Omega.{arith}
-use Rattle.equation.specs.Carry.{Carries}
 use Rattle.rules.specs.declared.Table.{Table}
-use Rattle.rules.specs.Tasks.{releases, latest, taskOf}
-use Rattle.rules.specs.Others.{countsOf}
-use Rattle.rules.specs.Response.{F}
-use Rattle.rules.specs.Judgement.{lowest, roundsOf, judge}
+use Rattle.rules.specs.Tasks.{releases, latest}
+use Rattle.rules.specs.Judgement.{roundsOf, judge}
 use Rattle.rules.specs.Chain.{isAccepted}
 use Rattle.rules.specs.Refusals.{checkOne}
 use Rattle.rules.specs.Operations.{olderBound}
-use Rattle.rules.proofs.Starts.{Judgeable, one-judgeable, judgeable-one}
+use Rattle.rules.proofs.Starts.{Judgeable, judged-accepted, one-judgeable, judgeable-one}
 use Rattle.rules.proofs.Points.{start-right, start-limit, carries, carried-judgeable}
+use Rattle.rules.proofs.Instance.{lowest-fits}
 use Rattle.rules.proofs.Worsened.{worsened}
 use Rattle.rules.proofs.Again.{carried-verdict}
 use Rattle.rules.specs.declared.Delay.the-variants.{Request}
@@ -27,34 +25,26 @@ use Rattle.claims.proofs.Point2.{right}
 
 rounds : (t : Table) (k start : ℕ) → Judgeable t k start → Rounds t k start
 unfolding judge roundsOf latest releases
-rounds t k start j = record { course = start-right t k start j .course; limit = start-limit t k start j }
+rounds t k start j =
+    let fits = lowest-fits t (judged-accepted t (j .judged)) k (j .number .low) (j .number .high) in
+    record { course = start-right t k start j .course fits; limit = start-limit t k start j }
 
 module _ (older newer : Table) (k : ℕ) (w : Worsened older newer k) where
   last-older : k ≤ older .tasks
   last-older = rw (worsened older newer (w .alike) .board .tasks) (w .last)
 
-  judgeable : Judgeable newer k (olderBound older k)
-  judgeable = carried-judgeable older newer (w .older-accepted) (w .newer-accepted) (w .alike) k (w .first) last-older
-
-  carry : Carries (F newer k) (lowest newer k) (latest (taskOf newer k)) (countsOf newer k) (olderBound older k)
-  carry = carries older newer (w .older-accepted) (w .newer-accepted) (w .alike) k (w .first) last-older
-
-  right-of-newer : Right newer k (olderBound older k) 1
-  unfolding roundsOf latest
-  right-of-newer = right newer k (olderBound older k) 1 (carry .right)
-
-  no-more : judge newer k (olderBound older k) .rounds ≤ judge newer k 0 .rounds
-  unfolding judge roundsOf
-  no-more = carry .no-more
-
   carried : Carried older newer k
-  carried = record {
-    not-refused = judgeable-one newer k (olderBound older k) judgeable;
-    right = right-of-newer;
-    same = carried-verdict older newer (w .older-accepted) (w .newer-accepted) (w .alike) k (w .first) (w .last);
-    rounds = rounds newer k (olderBound older k) judgeable;
-    no-more = no-more;
-  }
+  unfolding judge roundsOf latest
+  carried =
+      let start = carried-judgeable older newer (w .older-accepted) (w .newer-accepted) (w .alike) k (w .first) last-older in
+      let carry = carries older newer (w .older-accepted) (w .newer-accepted) (w .alike) k (w .first) last-older in
+      record {
+        not-refused = judgeable-one newer k (olderBound older k) start;
+        right = right newer k (olderBound older k) 1 (carry .right);
+        same = carried-verdict older newer (w .older-accepted) (w .newer-accepted) (w .alike) k (w .first) (w .last);
+        rounds = rounds newer k (olderBound older k) start;
+        no-more = carry .no-more;
+      }
 
 pub point-three : PointThree
 point-three = record { carried = carried; every-start = λ t k start passed. rounds t k start (one-judgeable t k start passed) }

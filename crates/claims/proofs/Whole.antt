@@ -9,14 +9,14 @@ use lib.Dec.{eqb}
 use lib.ListN.{length, take, drop, take-append-drop, length-append, length-drop}
 use lib.Seq.{take-all, take-at, length-take-le, drop-append-add}
 use borrow.Author.Tests.{ltb-false, le-ltb, eqb-true, eq-eqb, not-false}
-use Rattle.rules.specs.File.{fileLength, coresIn, tasksIn, formIn, sumOf, runningSum, trailer, checkWhole}
+use Rattle.rules.specs.File.{checkTrailer, fileLength, coresIn, tasksIn, formIn, sumOf, runningSum, trailer, checkWhole}
 use Rattle.rules.specs.Chain.{accepted, isAccepted, given, _orElse_}
 use Rattle.rules.proofs.Chain.{both-accepted, no-fault}
 use Rattle.laws.specs.Idioms.{number, bytes, part}
 use Rattle.laws.specs.Bytes.{Bytes}
 use Rattle.laws.proofs.Bytes.{number-bytes}
 use Rattle.laws.proofs.Tests.{or-neither}
-use Rattle.claims.proofs.ByteLists.{part-join, part-known}
+use Rattle.laws.proofs.ByteLists.{part-join, part-known}
 use Rattle.claims.proofs.ByteSums.{sum-fits, running-fits}
 
 pub record Whole (s : List ℕ) : Type 0 where
@@ -30,21 +30,21 @@ pub record Whole (s : List ℕ) : Type 0 where
 abbrev pub before : List ℕ → List ℕ
 before s = take (length s - 12) s
 
--- a chain of four that gives none
-no-faults : (a b c d : Bool) → isAccepted (given 1 0 a orElse given 2 0 b orElse given 3 0 c orElse given 4 0 d) ≡ true
+-- two links and two more that give none
+no-faults : (a b c d : Bool) → isAccepted (given 1 0 a orElse given 2 0 b orElse (given 3 0 c orElse given 4 0 d)) ≡ true
     → ((a ≡ false) × (b ≡ false)) × ((c ≡ false) × (d ≡ false))
 no-faults a b c d e =
-    let four = both-accepted (given 1 0 a orElse given 2 0 b orElse given 3 0 c) (given 4 0 d) e in
-    let three = both-accepted (given 1 0 a orElse given 2 0 b) (given 3 0 c) (four .0) in
-    let two = both-accepted (given 1 0 a) (given 2 0 b) (three .0) in
-    ((no-fault 0 0 a (two .0), no-fault 1 0 b (two .1)), (no-fault 2 0 c (three .1), no-fault 3 0 d (four .1)))
+    let (front, back) = both-accepted (given 1 0 a orElse given 2 0 b) (given 3 0 c orElse given 4 0 d) e in
+    let (one, two) = both-accepted (given 1 0 a) (given 2 0 b) front in
+    let (three, four) = both-accepted (given 3 0 c) (given 4 0 d) back in
+    ((no-fault 0 0 a one, no-fault 1 0 b two), (no-fault 2 0 c three, no-fault 3 0 d four))
 
 equal : (a b : ℕ) → not (eqb a b) ≡ false → a ≡ b
 equal a b e = eqb-true a b (not-false (eqb a b) e)
 
 module _ (s : List ℕ) where
   pub whole : isAccepted (checkWhole s) ≡ true → Whole s
-  unfolding checkWhole
+  unfolding checkWhole checkTrailer
   whole e =
       let none = no-faults _ _ _ _ e in
       let sums = or-neither _ _ (none .1 .1) in
@@ -57,7 +57,7 @@ module _ (s : List ℕ) where
       }
 
   pub came-whole : Whole s → checkWhole s ≡ accepted
-  unfolding checkWhole
+  unfolding checkWhole checkTrailer
   came-whole w =
       rw (le-ltb (length s) 46 (w .long), eq-eqb _ _ (w .sized), eq-eqb _ _ (w .counted), eq-eqb _ _ (w .summed), eq-eqb _ _ (w .resummed))
 

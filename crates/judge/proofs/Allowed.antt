@@ -23,7 +23,8 @@ use Rattle.rules.specs.Starts.{AllowedStart}
 use Rattle.rules.proofs.Starts.{allowed-passes}
 use Rattle.rules.proofs.Points.{carried-judgeable}
 use Rattle.rules.proofs.Worsened.{worsened}
-use Rattle.board.proofs.Places.{from-length, place-of}
+use Rattle.laws.proofs.Runs.{from-length}
+use Rattle.laws.proofs.Places.{place-of}
 use Rattle.rounds.specs.Numbered.{firstLate, firstHigh, judgedTasks}
 use Rattle.judge.specs.Carried.{startOf, olderStarts, AllAllowed}
 

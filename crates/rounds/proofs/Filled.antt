@@ -12,7 +12,8 @@ use Rattle.laws.specs.Idioms.{filled, upTo, entry, Within}
 use Rattle.rules.specs.Sound.{Sound}
 use Rattle.board.specs.declared.CoreCosts.{CoreCosts}
 use Rattle.board.specs.Costs.{costsOf, noCosts}
-use Rattle.board.proofs.Places.{from-length, place-of}
+use Rattle.laws.proofs.Runs.{from-length}
+use Rattle.laws.proofs.Places.{place-of}
 use Rattle.rounds.specs.Run.{Ready, climbed}
 use Rattle.rounds.specs.Columns.{termsAt, Placed, Filled}
 use Rattle.rounds.specs.Numbered.{climbedFor}

@@ -17,7 +17,8 @@ use Rattle.laws.proofs.Members.{map-same}
 use Rattle.rules.proofs.SoundTasks.{sound-all, sound-elsewhere, tasks-there}
 use Rattle.rules.specs.Board.{weight}
 use Rattle.board.specs.Costs.{costsOf}
-use Rattle.board.proofs.Places.{from-length, place-of}
+use Rattle.laws.proofs.Runs.{from-length}
+use Rattle.laws.proofs.Places.{place-of}
 use Rattle.board.proofs.Bounds.{weight-bounded}
 use Rattle.rounds.specs.Terms.{Beside}
 use Rattle.rounds.specs.Columns.{kept, keptOn, keptOff, loadsBy, Weights, termsAt, Placed}

@@ -48,3 +48,14 @@ module _ (n : ℕ) (fault : ℕ → Bool) where
 
   pub first-none : (m : ℕ) → ((i : ℕ) → 1 ≤ i → i ≤ m → fault i ≡ false) → first n fault m ≡ accepted
   first-none m clear = none-given 1 m (λ i low high. clear i low (omega arith))
+
+-- by two tests that agree
+module _ (n : ℕ) {f g : ℕ → Bool} where
+  from-same : (k m : ℕ) → ((i : ℕ) → k ≤ i → i < k + m → f i ≡ g i) → firstFrom n f k m ≡ firstFrom n g k m
+  unfolding firstFrom
+  from-same k zero same = refl
+  from-same k (suc m) same =
+      rw (same k (omega arith) (omega arith), from-same (k + 1) m (λ i low high. same i (omega arith) (omega arith)))
+
+  pub first-same : (m : ℕ) → ((i : ℕ) → 1 ≤ i → i ≤ m → f i ≡ g i) → first n f m ≡ first n g m
+  first-same m same = from-same 1 m (λ i low high. same i low (omega arith))

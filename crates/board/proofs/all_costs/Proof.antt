@@ -8,7 +8,7 @@ use Rattle.rules.specs.declared.Table.{Table}
 use Rattle.laws.specs.Idioms.{from, upTo, filled}
 use Rattle.timing.specs.Figures.{figuresOf}
 use Rattle.board.specs.Costs.{costsOf, noCosts}
-use Rattle.board.proofs.Places.{place-next}
+use Rattle.laws.proofs.Places.{place-next}
 use Rattle.board.proofs.Weighed.{small}
 use Rattle.board.proofs.all_costs.Statement.{statement}
 use Rattle.board.proofs.all_costs.Tie as tie

@@ -7,7 +7,7 @@ use borrow.Author.Tests.{ltb-true, ltb-false}
 use lib.ListN.{length, take}
 use lib.Seq.{take-all}
 use Rattle.laws.specs.Idioms.{filled}
-use Rattle.capi.proofs.Filled.{filled-next}
+use Rattle.laws.proofs.Filled.{filled-next}
 use Rattle.capi.proofs.all_starts.Statement.{statement}
 use Rattle.capi.proofs.all_starts.Tie as tie
 

@@ -8,7 +8,7 @@ use native.Mathlib.Omega.{arith}
 use lib.ListN.{length-take, getD}
 use Rattle.laws.specs.Idioms.{filled, from, upTo, Within}
 use Rattle.rules.specs.Judgement.{misses}
-use Rattle.board.proofs.Places.{place-next}
+use Rattle.laws.proofs.Places.{place-next}
 use Rattle.rounds.specs.Numbered.{climbedFor, firstHigh}
 use Rattle.rounds.proofs.Filled.{core-within, cost-at, eight-weights, at-requires, at-gives}
 use Rattle.rounds.proofs.Firsts.{Left, left-all, left-hit, left-next, left-none, on-time, highs, answerTo, high-is, answer-is, refused-tasks, answered-tasks}

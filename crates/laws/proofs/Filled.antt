@@ -4,11 +4,11 @@ use mathlib.Core.List.{List, [], _∷_, _++_, map}
 use Prim.Native.Nat.{ℕ, zero, suc, _+_, _-_, _≤_, _<_}
 use native.Mathlib.Omega.{arith}
 use native.Mathlib.Numerals.{add-one}
-use lib.ListN.{length, length-map, take, getD, set, replicate}
+use lib.ListN.{length, take, getD, set, replicate}
 use lib.Seq.{length-take-le, take-at, take-suc, getD-take}
 use Rattle.laws.specs.Idioms.{entry, filled, upTo}
 use Rattle.laws.proofs.Fill.{fill-step}
-use Rattle.file.proofs.Runs.{length-from}
+use Rattle.laws.proofs.Runs.{length-map-from}
 
 -- one member more
 pub filled-next : {A : Type 0} (n : ℕ) (d : A) (l : List A) (i : ℕ) → i < n → i < length l → set (filled n d (take i l)) i (getD l i d) ≡ filled n d (take (i + 1) l)
@@ -28,4 +28,4 @@ filled-entry n d l k low high =
 
 -- what is filled in for the numbers 1 to m are the first m places
 pub take-filled : {A : Type 0} (n : ℕ) (d : A) (f : ℕ → A) (m : ℕ) → take m (filled n d (map f (upTo m))) ≡ map f (upTo m)
-take-filled n d f m = take-at (map f (upTo m)) _ m (length-map (upTo m) f ∙ length-from 1 m)
+take-filled n d f m = take-at (map f (upTo m)) _ m (length-map-from f m 1)

@@ -3,12 +3,12 @@
 use mathlib.Core.Path.{_≡_}
 use mathlib.Core.List.{List, [], _∷_, _++_, map}
 use Prim.Native.Nat.{ℕ, zero, suc, _+_, _≤_, _<_}
-use native.Mathlib.Omega.{arith}
-use lib.ListN.{length, take, drop, set, length-drop}
-use lib.Seq.{length-take-le, take-add, drop-drop}
+use lib.ListN.{length, take, drop, set}
+use lib.Seq.{take-add, drop-drop}
 use Rattle.laws.specs.Idioms.{joined, number, bytes, part}
 use Rattle.laws.specs.Bytes.{Bytes, none, more}
 use Rattle.laws.proofs.Bytes.{bytes-number}
+use Rattle.laws.proofs.Parts.{part-length}
 
 pub bytes-append : {l m : List ℕ} → Bytes l → Bytes m → Bytes (l ++ m)
 bytes-append none b = b
@@ -38,12 +38,9 @@ pub known-by-number : (k : ℕ) (l : List ℕ) → Bytes l → length l ≡ k �
 known-by-number k l b e = rw e at (bytes-number b)
 
 module _ (s : List ℕ) (at : ℕ) where
-  pub part-length : (k : ℕ) → at + k ≤ length s → length (part s at k) ≡ k
-  part-length k h = length-take-le k (drop at s) (rw (length-drop at s) (omega arith))
-
   -- two parts, one after the other
   pub part-join : (j k : ℕ) → part s at j ++ part s (at + j) k ≡ part s at (j + k)
   part-join j k = rw (take-add j k (drop at s), drop-drop j at s)
 
   pub part-known : (k : ℕ) → Bytes s → at + k ≤ length s → bytes k (number (part s at k)) ≡ part s at k
-  part-known k b h = known-by-number k (part s at k) (bytes-take k (bytes-drop at b)) (part-length k h)
+  part-known k b h = known-by-number k (part s at k) (bytes-take k (bytes-drop at b)) (part-length s at k h)

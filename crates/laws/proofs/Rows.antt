@@ -4,18 +4,18 @@ use mathlib.Core.Path.{_≡_, refl, ap₂}
 use mathlib.Core.List.{List, [], _∷_, _++_, map, append-assoc}
 use Prim.Native.Nat.{ℕ, zero, suc, _+_, _*_, _≤_, _<_}
 use native.Mathlib.Omega.{arith}
-use lib.ListN.{length, take, drop, getD, length-append, length-drop}
+use lib.ListN.{length, take, drop, getD, length-drop}
 use lib.Seq.{length-take-le, take-add, take-at, drop-at, drop-drop}
 use Rattle.laws.specs.Idioms.{from, joined, part}
 use Rattle.laws.specs.Bytes.{Bytes}
-use Rattle.claims.proofs.ByteLists.{bytes-take, bytes-drop}
+use Rattle.laws.proofs.ByteLists.{bytes-take, bytes-drop}
 
 -- n rows of w
-unfoldable pub rows : ℕ → ℕ → List ℕ → List (List ℕ)
+unfoldable rows : ℕ → ℕ → List ℕ → List (List ℕ)
 rows w zero l = []
 rows w (suc n) l = take w l ∷ rows w n (drop w l)
 
-pub rows-joined : (w n : ℕ) (l : List ℕ) → joined (rows w n l) ≡ take (w * n) l
+rows-joined : (w n : ℕ) (l : List ℕ) → joined (rows w n l) ≡ take (w * n) l
 unfolding rows
 rows-joined w zero l = let e : w * 0 ≡ 0 = omega arith in rw e
 rows-joined w (suc n) l =
@@ -28,13 +28,6 @@ pub record Code {A : Type 0} (w : ℕ) (enc : A → List ℕ) (dec : List ℕ �
   pub again : (l : List ℕ) → Bytes l → length l ≡ w → enc (dec l) ≡ l
 
 module _ {A : Type 0} {w : ℕ} {enc : A → List ℕ} {dec : List ℕ → A} (code : Code w enc dec) where
-  joined-length : (l : List A) → length (joined (map enc l)) ≡ w * length l
-  joined-length [] = omega arith
-  joined-length (x ∷ l) = rw (length-append (enc x) (joined (map enc l)), code .sized x, joined-length l) (omega arith)
-
-  pub written-length : (n : ℕ) (l : List A) → n ≤ length l → length (joined (map enc (take n l))) ≡ w * n
-  written-length n l fits = rw (length-take-le n l fits) at (joined-length (take n l))
-
   written-rows : (l : List A) (q : List ℕ) → rows w (length l) (joined (map enc l) ++ q) ≡ map enc l
   unfolding rows
   written-rows [] q = refl
