@@ -19,7 +19,6 @@ use Rattle.rules.specs.declared.Verdict.the-variants.{Holds}
 use Rattle.rules.specs.Units.{ps}
 use Rattle.rules.specs.Figures.{two-solutions}
 use Rattle.rules.proofs.EveryRule.{every-rule}
-use Rattle.claims.specs.Point2.{Right}
 use Rattle.claims.specs.Point3.{Worsened, Rounds, Carried, PointThree, StartsMatter}
 use Rattle.claims.proofs.Point2.{right}
 

@@ -1,23 +1,18 @@
 -- Every figure of an accepted table fits its field of the file. Assumes nothing.
 use mathlib.Core.Path.{_≡_}
-use mathlib.Core.Bool.{true, false}
+use mathlib.Core.Bool.{true}
 use mathlib.Core.List.{List, [], _∷_}
 use Prim.Native.Nat.{ℕ, zero, suc, _-_, _^_, _≤_, _<_, max}
 use native.Mathlib.Nat.{pow-le-pow-right}
 use native.Mathlib.Omega.{arith}
 use lib.Dec.{lit<}
 use lib.ListN.{getD}
-use borrow.Author.Tests.{not-false}
 use Rattle.rules.specs.declared.Table.{Table}
 use Rattle.rules.specs.Timing.{ranges}
 use Rattle.rules.specs.Tasks.{noTask}
-use Rattle.rules.specs.Chain.{isAccepted, given, _orElse_, first}
-use Rattle.rules.specs.Refusals.{countsFault, figureFault, relationFault, checkTiming, setFault, checkBoard, checkTasks, checkTable}
-use Rattle.rules.proofs.Accepted.{sound}
-use Rattle.rules.proofs.Chain.{both-accepted}
-use Rattle.rules.proofs.First.{none-first}
-use Rattle.laws.specs.Idioms.{entry, Within}
-use Rattle.laws.proofs.Tests.{or-neither, inside}
+use Rattle.rules.specs.Chain.{isAccepted}
+use Rattle.rules.specs.Refusals.{checkTable}
+use Rattle.rules.proofs.Accepted.{figure, timing-passed, sound}
 use Rattle.claims.proofs.Codes.{Fits}
 
 -- no highest value of the ranges is above the largest of them
@@ -35,26 +30,9 @@ from-one : (k : ℕ) → suc k - 1 ≡ k
 from-one k = omega arith
 
 module _ (t : Table) (passed : isAccepted (checkTable t) ≡ true) where
-  timing-passed : isAccepted (checkTiming (t .timing)) ≡ true
-  unfolding checkTable checkBoard
-  timing-passed =
-      let board = both-accepted (checkBoard t) (checkTasks t) passed .0 in
-      let counts-and-timing = both-accepted (given 5 0 (countsFault t) orElse checkTiming (t .timing)) (first 8 (setFault t) (t .cores)) board .0 in
-      both-accepted (given 5 0 (countsFault t)) (checkTiming (t .timing)) counts-and-timing .1
-
-  figure-passed : (k : ℕ) → 1 ≤ k → k ≤ 15 → figureFault (t .timing) k ≡ false
-  unfolding checkTiming
-  figure-passed =
-      let figures = both-accepted (first 6 (figureFault (t .timing)) 15) (first 7 (relationFault (t .timing)) 5) timing-passed .0 in
-      none-first 5 (figureFault (t .timing)) 15 figures
-
-  figure : (k : ℕ) → 1 ≤ k → k ≤ 15 → Within (entry (0, 0) ranges k .0) (entry (0, 0) ranges k .1) (entry 0 (t .timing) k)
-  unfolding figureFault
-  figure k low high = inside _ _ _ (not-false _ (or-neither _ _ (figure-passed k low high) .0))
-
   pub figure-fits : (k : ℕ) → k < 15 → getD (t .timing) k 0 < 256 ^ 2
   unfolding ranges
-  figure-fits k less = omega (arith, rw (from-one k) at (figure (suc k) (omega arith) (omega arith)), under-top ranges k)
+  figure-fits k less = omega (arith, rw (from-one k) at (figure (t .timing) (timing-passed t passed) (suc k) (omega arith) (omega arith)), under-top ranges k)
 
   pub set-fits : (k : ℕ) → k < t .cores → getD (t .sets) k 0 < 256 ^ 2
   set-fits k less =

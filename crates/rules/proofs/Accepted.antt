@@ -25,7 +25,7 @@ module _ (w : Row) (passed : isAccepted (checkTiming w) ≡ true) where
   unfolding checkTiming
   links = both-accepted (first 6 (figureFault w) 15) (first 7 (relationFault w) 5) passed
 
-  figure : (k : ℕ) → 1 ≤ k → k ≤ 15 → Within (entry (0, 0) ranges k .0) (entry (0, 0) ranges k .1) (entry 0 w k)
+  pub figure : (k : ℕ) → 1 ≤ k → k ≤ 15 → Within (entry (0, 0) ranges k .0) (entry (0, 0) ranges k .1) (entry 0 w k)
   unfolding figureFault
   figure k low high =
       inside _ _ _ (not-false _ (or-neither _ _ (none-first 5 (figureFault w) 15 (links .0) k low high) .0))
@@ -34,7 +34,7 @@ module _ (w : Row) (passed : isAccepted (checkTiming w) ≡ true) where
   unfolding relationFault relationsHold
   relation-one = not-false _ (none-first 6 (relationFault w) 5 (links .1) 1 (omega arith) (omega arith))
 
-  pub sound-row : SoundRow w
+  sound-row : SoundRow w
   unfolding ranges
   sound-row = record {
     tCK-in = figure 1 (omega arith) (omega arith);
@@ -127,13 +127,16 @@ module _ (t : Table) (passed : isAccepted (checkTable t) ≡ true) where
           H-high = ltb-false _ _ requests-fit;
         }
 
+  pub timing-passed : isAccepted (checkTiming (t .timing)) ≡ true
+  timing-passed = first-links .1
+
   pub sound : Sound t
   sound = record {
     cores-in = counts .0 .0;
     partitions-in = counts .0 .1;
     tasks-in = counts .1 .0;
     fourth-zero = counts .1 .1;
-    row = sound-row (t .timing) (first-links .1);
+    row = sound-row (t .timing) timing-passed;
     set-some = λ p low high. set-facts p low high .0;
     set-high = λ p low high. set-facts p low high .1;
     task-sound = task-facts;

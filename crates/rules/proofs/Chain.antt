@@ -5,7 +5,7 @@ use Prim.Native.Nat.{ℕ, suc}
 use native.Mathlib.Omega.{arith}
 use borrow.Author.Tests.{eqb-true}
 use Rattle.rules.specs.declared.Refusal.{Refusal}
-use Rattle.rules.specs.Chain.{accepted, isAccepted, _orElse_, given}
+use Rattle.rules.specs.Chain.{isAccepted, _orElse_, given}
 
 pub both-accepted : (a b : Refusal) → isAccepted (a orElse b) ≡ true → (isAccepted a ≡ true) × (isAccepted b ≡ true)
 both-accepted a b e = go (isAccepted a) refl e
