@@ -32,7 +32,7 @@ module _ (s starts : List ℕ) where
   -- the places after the tasks hold no answer
   answers-all : isAccepted (judgeAll (decode s) starts .refusal) ≡ true → take (tasksIn s) (judgeAll (decode s) starts .answers) ≡ answersOf s starts
   unfolding judgeAll answersFrom answersOf decode
-  answers-all e = rw e (take-filled 32 (misses 0) (λ k. judge (decode s) k (entry 0 starts k)) (tasksIn s))
+  answers-all e = rw e (take-filled 32 (misses 0) (λ k. judge (decode s) k (entry 0 starts k)) 1 (tasksIn s))
 
 -- ---- the outputs afterwards, and what is returned
 

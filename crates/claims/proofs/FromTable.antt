@@ -9,12 +9,14 @@ use Rattle.rules.specs.declared.Table.{Table}
 use Rattle.rules.specs.Tasks.{noTask, tasksOf}
 use Rattle.rules.specs.File.{setsAt, recordsAt, recordSize, recordAt, fileLength, recordBytes, recordTask, trailer, body, encode, recordIn, decode}
 use Rattle.rules.proofs.Accepted.{sound}
+use Rattle.rules.proofs.SoundTasks.{tasks-there}
 use Rattle.laws.specs.Idioms.{below, upTo, filled, number, bytes, part}
 use Rattle.laws.specs.Bytes.{Bytes, none, more}
-use Rattle.laws.proofs.Bytes.{bytes-are, number-bytes}
+use Rattle.laws.proofs.Bytes.{bytes-length, bytes-are, number-bytes}
 use Rattle.claims.specs.Files.{AcceptedTable, Shape, cleared}
 use Rattle.laws.proofs.ByteLists.{bytes-append, bytes-joined}
-use Rattle.laws.proofs.Rows.{written-length, read-back}
+use Rattle.laws.proofs.Rows.{read-back}
+use Rattle.laws.proofs.Runs.{joined-take}
 use Rattle.claims.proofs.Codes.{number-code, task-code, record-bytes, task-known}
 use Rattle.claims.proofs.Whole.{Whole, trailer-length, trailed-whole}
 use Rattle.claims.proofs.Places.{header, figureBytes, setBytes, taskBytes, body-parts, encode-parts, figure-ladder, set-ladder, record-ladder, sets-after-figures, records-after-sets, trailer-after-records}
@@ -29,30 +31,27 @@ module _ {t : Table} (shape : Shape t) (passed : AcceptedTable t) where
   sets-fit : t .cores ≤ length (t .sets)
   sets-fit = omega (arith, sound t passed .cores-in, shape .sets)
 
-  tasks-fit : t .tasks ≤ length (t .task)
-  tasks-fit = omega (arith, sound t passed .tasks-in, shape .tasks)
-
   header-length : length (header t) ≡ 4
   unfolding header
   header-length = refl
 
   figures-length : length (figureBytes t) ≡ 30
   unfolding figureBytes
-  figures-length = rw all-figures at (written-length (number-code 2) 15 (t .timing) (omega (arith, shape .figures)))
+  figures-length = rw all-figures at (joined-take (bytes 2) 2 (bytes-length 2) (t .timing) 15 (omega (arith, shape .figures)))
 
   sets-length : length (setBytes t) ≡ 2 * t .cores
   unfolding setBytes
-  sets-length = written-length (number-code 2) (t .cores) (t .sets) sets-fit
+  sets-length = joined-take (bytes 2) 2 (bytes-length 2) (t .sets) (t .cores) sets-fit
 
   tasks-length : length (taskBytes t) ≡ recordSize (t .fourth) * t .tasks
   unfolding taskBytes
-  tasks-length = written-length (task-code (t .fourth)) (t .tasks) (t .task) tasks-fit
+  tasks-length = joined-take (recordBytes (t .fourth)) (recordSize (t .fourth)) (task-code (t .fourth) .sized) (t .task) (t .tasks) (tasks-there t (sound t passed))
 
   body-length : length (body t) ≡ recordsAt (t .fourth) (t .cores) + recordSize (t .fourth) * t .tasks
   body-length =
       simp (body-parts, length-append, header-length, figures-length, sets-length, tasks-length, records-after-sets, sets-after-figures)
 
-  pub encode-length : length (encode t) ≡ fileLength (t .fourth) (t .cores) (t .tasks)
+  encode-length : length (encode t) ≡ fileLength (t .fourth) (t .cores) (t .tasks)
   unfolding encode
   encode-length = rw (length-append (body t) (trailer (body t)), trailer-length (body t), body-length, trailer-after-records)
 
@@ -122,7 +121,7 @@ module _ {t : Table} (shape : Shape t) (passed : AcceptedTable t) where
   tasks-back : map (λ k. recordTask (part (encode t) (recordAt (t .fourth) (t .cores) k) (recordSize (t .fourth)))) (upTo (t .tasks)) ≡ tasksOf t
   unfolding taskBytes
   tasks-back =
-      read-back (task-code (t .fourth)) (encode t) (record-ladder (t .fourth) (t .cores)) noTask (t .tasks) (t .task) _ tasks-fit after-sets
+      read-back (task-code (t .fourth)) (encode t) (record-ladder (t .fourth) (t .cores)) noTask (t .tasks) (t .task) _ (tasks-there t (sound t passed)) after-sets
       (λ k less. task-known (t .fourth) _ (task-fits t passed k less))
 
   pub read-again : decode (encode t) ≡ cleared t

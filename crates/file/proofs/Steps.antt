@@ -11,7 +11,7 @@ use Rattle.rules.specs.File.{recordSize, recordAt, recordIn, recordTask, coresI
 use Rattle.laws.specs.Idioms.{number, part, filled}
 use Rattle.laws.proofs.Fill.{fill-step}
 use Rattle.file.specs.Places.{figuresIn, tasksTo}
-use Rattle.file.proofs.Runs.{map-below-next, length-map-below, map-upTo-next, length-map-upTo, sets-next}
+use Rattle.laws.proofs.Runs.{map-below-next, length-map-below, map-upTo-next, length-map-upTo, sets-next}
 
 module _ (s : List ℕ) where
   pub figures-length : (at n : ℕ) → length (figuresIn s at n) ≡ n

@@ -13,7 +13,7 @@ use Rattle.rules.specs.File.{recordBytes, sumOf, runningSum, trailer, body}
 use Rattle.laws.specs.Idioms.{joined, bytes}
 use Rattle.laws.proofs.Bytes.{bytes-length}
 use Rattle.file.specs.Places.{counts}
-use Rattle.file.proofs.Runs.{map-snoc, sets-after}
+use Rattle.laws.proofs.Runs.{map-snoc, sets-after}
 
 pub byte-next : (l : List ℕ) (at v n i : ℕ) → i < n
     → sets l (at + i) (bytes (n - i) v) ≡ sets (set l (at + i) (v % 256)) (at + (i + 1)) (bytes (n - (i + 1)) (v / 256))

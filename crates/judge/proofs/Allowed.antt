@@ -1,43 +1,43 @@
 -- Starts none of which is refused: fresh ones, and the older bounds where the newer table is the older one worsened. Assumes nothing.
-use mathlib.Core.Path.{_≡_, refl, sym, ap, _∙_}
-use mathlib.Core.Bool.{true}
-use mathlib.Core.List.{List, map}
+use mathlib.Core.Path.{_≡_, refl, ap, _∙_}
+use mathlib.Core.Bool.{true, false}
+use mathlib.Core.List.{List}
 use Prim.Native.Nat.{ℕ, zero, suc, _-_, _≤_}
-use native.Mathlib.Omega.{arith}
-use lib.ListN.{length, length-append, length-map, length-replicate, getD, replicate, List·getD-map}
+use lib.ListN.{length, getD, replicate, List·getD-map}
 use Rattle.equation.proofs.Judge.{fresh-allowed}
 use Rattle.rules.specs.declared.Table.{Table}
-use Rattle.rules.specs.declared.Answer.{Answer}
-use Rattle.rules.specs.declared.AllJudged.{AllJudged}
 use Rattle.rules.specs.Judgement.{misses, judge}
 use Rattle.rules.specs.Order.{worsens}
 use Rattle.rules.specs.Refusals.{checkTable, lateStart, highStart}
-use Rattle.rules.specs.Operations.{answersFrom, noAnswers, fresh, olderBound}
+use Rattle.rules.specs.Operations.{answersFrom, fresh, olderBound}
 use Rattle.rules.proofs.Accepted.{sound}
 use Rattle.rules.proofs.First.{first-none}
-use Rattle.laws.specs.Idioms.{upTo, entry, filled}
-use Rattle.laws.proofs.Members.{member-upTo, map-same}
+use Rattle.laws.specs.Idioms.{entry}
 use Rattle.rules.proofs.Instance.{equation-of, lowest-fits}
 use Rattle.rules.specs.Chain.{accepted, isAccepted}
-use Rattle.rules.specs.Starts.{AllowedStart}
 use Rattle.rules.proofs.Starts.{allowed-passes}
+use Rattle.rules.proofs.LentStarts.{answers-same}
 use Rattle.rules.proofs.Points.{carried-judgeable}
 use Rattle.rules.proofs.Worsened.{worsened}
-use Rattle.laws.proofs.Runs.{from-length}
+use Rattle.laws.proofs.Runs.{length-map-from}
+use Rattle.laws.proofs.Filled.{filled-length}
 use Rattle.laws.proofs.Places.{place-of}
 use Rattle.rounds.specs.Numbered.{firstLate, firstHigh, judgedTasks}
 use Rattle.judge.specs.Carried.{startOf, olderStarts, AllAllowed}
 
 -- ---- where none is refused, all are answered
 
-module _ (t : Table) (starts : List ℕ) (all : AllAllowed t starts) where
+module _ (t : Table) (passed : isAccepted (checkTable t) ≡ true) (starts : List ℕ) (all : AllAllowed t starts) where
+  passes : (k : ℕ) → 1 ≤ k → k ≤ t .tasks → (lateStart t k (entry 0 starts k) ≡ false) × (highStart t k (entry 0 starts k) ≡ false)
+  passes k low high = allowed-passes t k (entry 0 starts k) (lowest-fits t passed k low high) (all k low high)
+
   none-late : firstLate t starts ≡ accepted
   unfolding firstLate
-  none-late = first-none 13 (λ k. lateStart t k (entry 0 starts k)) (t .tasks) (λ k low high. allowed-passes t k (entry 0 starts k) (all k low high) .0)
+  none-late = first-none 13 (λ k. lateStart t k (entry 0 starts k)) (t .tasks) (λ k low high. passes k low high .0)
 
   none-high : firstHigh t starts ≡ accepted
   unfolding firstHigh
-  none-high = first-none 14 (λ k. highStart t k (entry 0 starts k)) (t .tasks) (λ k low high. allowed-passes t k (entry 0 starts k) (all k low high) .1)
+  none-high = first-none 14 (λ k. highStart t k (entry 0 starts k)) (t .tasks) (λ k low high. passes k low high .1)
 
   pub allowed-late : isAccepted (firstLate t starts) ≡ true
   allowed-late = rw none-late
@@ -45,11 +45,6 @@ module _ (t : Table) (starts : List ℕ) (all : AllAllowed t starts) where
   pub allowed-answers : judgedTasks t starts .answers ≡ answersFrom t (entry 0 starts)
   unfolding judgedTasks
   allowed-answers = rw none-high
-
-pub same-answers : (t : Table) (start other : ℕ → ℕ) → ((k : ℕ) → 1 ≤ k → k ≤ t .tasks → start k ≡ other k) → answersFrom t start ≡ answersFrom t other
-unfolding answersFrom
-same-answers t start other same =
-    rw (map-same (λ k. judge t k (start k)) (λ k. judge t k (other k)) (upTo (t .tasks)) (λ k m. let i = member-upTo (t .tasks) m in ap (judge t k) (same k (i .0) (i .1))))
 
 -- ---- fresh starts
 
@@ -63,11 +58,11 @@ fresh-starts k = zeros 32 (k - 1)
 
 module _ (t : Table) (passed : isAccepted (checkTable t) ≡ true) where
   pub all-fresh : AllAllowed t (replicate 32 0)
-  all-fresh k low high = rw (fresh-starts k) (fresh-allowed (equation-of t passed k low high) (lowest-fits t passed k low high))
+  all-fresh k low high = rw (fresh-starts k) (fresh-allowed (equation-of t passed k low high))
 
   pub answers-long : (start : ℕ → ℕ) → length (answersFrom t start) ≡ 32
   unfolding answersFrom
-  answers-long start = rw (length-append, length-replicate, length-map, from-length) (omega (arith, sound t passed .tasks-in .high))
+  answers-long start = filled-length 32 (misses 0) _ (rw (length-map-from (λ k. judge t k (start k)) (t .tasks) 1) (sound t passed .tasks-in .high))
 
   -- the start of task number k
   pub older-start : (k : ℕ) → 1 ≤ k → k ≤ t .tasks → entry 0 (olderStarts t) k ≡ olderBound t k
@@ -88,4 +83,4 @@ module _ (older newer : Table) (was : isAccepted (checkTable older) ≡ true) (i
       rw (older-start older was k low (as-many high)) (carried-judgeable older newer was is worse k low (as-many high) .allowed)
 
   pub carried-answers : answersFrom newer (entry 0 (olderStarts older)) ≡ answersFrom newer (olderBound older)
-  carried-answers = same-answers newer _ _ (λ k low high. older-start older was k low (as-many high))
+  carried-answers = answers-same newer _ _ (λ k low high. older-start older was k low (as-many high))

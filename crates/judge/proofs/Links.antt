@@ -1,19 +1,16 @@
 -- The order of refusals of a judgement, link by link. Assumes nothing.
-use mathlib.Core.Path.{_≡_, refl, sym, ap, _∙_}
-use mathlib.Core.Bool.{Bool, true, false, cond, not}
+use mathlib.Core.Path.{_≡_, refl, ap, _∙_}
+use mathlib.Core.Bool.{true, false, cond}
 use mathlib.Core.List.{List}
-use Prim.Native.Nat.{ℕ, _-_, _≤_, _<_}
+use Prim.Native.Nat.{ℕ, _≤_, _<_}
 use native.Mathlib.Omega.{arith}
-use lib.Dec.{leb}
-use lib.ListN.{getD}
 use borrow.Author.Tests.{eq-eqb, ne-eqb, lt-ltb, le-ltb, le-leb, lt-leb, ltb-false, not-false}
 use Rattle.rules.specs.declared.Table.{Table}
 use Rattle.rules.specs.declared.Refusal.{Refusal}
 use Rattle.rules.specs.declared.Answer.{Answer}
 use Rattle.rules.specs.declared.Judged.{Judged}
-use Rattle.rules.specs.declared.AllJudged.{AllJudged}
 use Rattle.rules.specs.declared.Rejudged.{Rejudged}
-use Rattle.rules.specs.Tasks.{D, latest, noTask, taskOf}
+use Rattle.rules.specs.Tasks.{D, latest, taskOf}
 use Rattle.rules.specs.Judgement.{misses, judge}
 use Rattle.rules.specs.Sound.{Sound}
 use Rattle.rules.specs.Refusals.{checkTable, askedFault, lateStart, highStart, checkOne, checkAll, checkStart}
@@ -22,7 +19,7 @@ use Rattle.rules.specs.Operations.{judgeOne, judgeAll, answersFrom, fresh, olde
 use Rattle.rules.proofs.Again.{rejudged-verdicts}
 use Rattle.rules.proofs.Chain.{both-accepted, first-refuses, second-decides, no-fault}
 use Rattle.rules.proofs.Accepted.{sound}
-use Rattle.laws.specs.Idioms.{within, entry, Within}
+use Rattle.laws.specs.Idioms.{entry, Within}
 use Rattle.laws.proofs.Tests.{inside}
 use Rattle.rounds.specs.declared.Climbed.{Climbed}
 use Rattle.rounds.specs.Numbered.{climbedFor, notJudged, noneJudged, firstLate, firstHigh, judgedTasks}

@@ -1,7 +1,5 @@
 -- What the operations' contracts cite beside the rules.
 --     Same     two tables alike, place by place
---     Links    the refusals that are met before any round
 --     Carried  a newer table after an older one
 pub mod Same
-pub mod Links
 pub mod Carried

@@ -4,9 +4,9 @@ use mathlib.Core.List.{List, [], _∷_, _++_, map}
 use Prim.Native.Nat.{ℕ, zero, suc, _+_, _-_, _≤_, _<_}
 use native.Mathlib.Omega.{arith}
 use native.Mathlib.Numerals.{add-one}
-use lib.ListN.{length, take, getD, set, replicate}
+use lib.ListN.{length, length-append, length-replicate, take, getD, set, replicate}
 use lib.Seq.{length-take-le, take-at, take-suc, getD-take}
-use Rattle.laws.specs.Idioms.{entry, filled, upTo}
+use Rattle.laws.specs.Idioms.{entry, filled, from}
 use Rattle.laws.proofs.Fill.{fill-step}
 use Rattle.laws.proofs.Runs.{length-map-from}
 
@@ -26,6 +26,9 @@ pub filled-entry : {A : Type 0} (n : ℕ) (d : A) (l : List A) (k : ℕ) → 1 �
 filled-entry n d l k low high =
     pad-default (take n l) (n - length (take n l)) (k - 1) d ∙ getD-take n l (k - 1) d (omega arith)
 
--- what is filled in for the numbers 1 to m are the first m places
-pub take-filled : {A : Type 0} (n : ℕ) (d : A) (f : ℕ → A) (m : ℕ) → take m (filled n d (map f (upTo m))) ≡ map f (upTo m)
-take-filled n d f m = take-at (map f (upTo m)) _ m (length-map-from f m 1)
+pub filled-length : {A : Type 0} (n : ℕ) (d : A) (l : List A) → length l ≤ n → length (filled n d l) ≡ n
+filled-length n d l h = rw (length-append, length-replicate) (omega arith)
+
+-- what is filled in for m numbers in a row are the first m places
+pub take-filled : {A : Type 0} (n : ℕ) (d : A) (f : ℕ → A) (a m : ℕ) → take m (filled n d (map f (from a m))) ≡ map f (from a m)
+take-filled n d f a m = take-at (map f (from a m)) _ m (length-map-from f m a)

@@ -1,24 +1,33 @@
 -- The first place at fault, as a loop finds it: i places have been passed, and place i + 1 is looked at. Assumes nothing.
-use mathlib.Core.Path.{_≡_, refl}
+use mathlib.Core.Path.{_≡_, refl, sym, _∙_}
 use mathlib.Core.Bool.{Bool, true, false, cond}
 use Prim.Native.Nat.{ℕ, zero, suc, _+_, _-_, _≤_, _<_}
 use native.Mathlib.Decide.{ℕ-discrete}
+use native.Mathlib.Nat.{sub-zero}
 use native.Mathlib.Omega.{arith}
 use borrow.Author.Tests.{eqb-true}
 use Rattle.rules.specs.Chain.{accepted, refused, isAccepted, firstFrom, first}
 
-module _ (n : ℕ) (fault : ℕ → Bool) (m i : ℕ) where
-  pub first-hit : i < m → fault (i + 1) ≡ true → firstFrom n fault (i + 1) (m - i) ≡ refused n (i + 1)
-  unfolding firstFrom
-  first-hit h t = let e : m - i ≡ suc (m - (i + 1)) = omega arith in rw (e, firstFrom, t)
+-- what is left of looking for the first fault of places 1 to m after i of them
+abbrev pub Left : ℕ → (ℕ → Bool) → ℕ → ℕ → Type 0
+Left n fault m i = first n fault m ≡ firstFrom n fault (i + 1) (m - i)
 
-  pub first-next : i < m → fault (i + 1) ≡ false → firstFrom n fault (i + 1) (m - i) ≡ firstFrom n fault (i + 1 + 1) (m - (i + 1))
-  unfolding firstFrom
-  first-next h t = let e : m - i ≡ suc (m - (i + 1)) = omega arith in rw (e, firstFrom, t)
+module _ (n : ℕ) (fault : ℕ → Bool) (m : ℕ) where
+  pub left-all : Left n fault m 0
+  left-all = rw sub-zero
 
-  pub first-done : m ≤ i → firstFrom n fault (i + 1) (m - i) ≡ accepted
-  unfolding firstFrom
-  first-done h = let e : m - i ≡ 0 = omega arith in rw (e, firstFrom)
+  module _ (i : ℕ) (left : Left n fault m i) where
+    pub left-hit : i < m → fault (i + 1) ≡ true → refused n (i + 1) ≡ first n fault m
+    unfolding firstFrom
+    left-hit h t = let e : m - i ≡ suc (m - (i + 1)) = omega arith in sym (left ∙ rw (e, firstFrom, t))
+
+    pub left-next : i < m → fault (i + 1) ≡ false → Left n fault m (i + 1)
+    unfolding firstFrom
+    left-next h t = let e : m - i ≡ suc (m - (i + 1)) = omega arith in left ∙ rw (e, firstFrom, t)
+
+    pub left-none : m ≤ i → accepted ≡ first n fault m
+    unfolding firstFrom
+    left-none h = let e : m - i ≡ 0 = omega arith in sym (left ∙ rw (e, firstFrom))
 
 -- where nothing is refused, no place is at fault
 module _ (n : ℕ) (fault : ℕ → Bool) where

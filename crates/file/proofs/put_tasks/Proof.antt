@@ -9,7 +9,7 @@ use lib.Seq.{sets}
 use Rattle.laws.specs.Idioms.{joined}
 use Rattle.rules.specs.Tasks.{noTask}
 use Rattle.rules.specs.File.{recordBytes}
-use Rattle.file.proofs.Runs.{unmapped}
+use Rattle.laws.proofs.Runs.{unmapped}
 use Rattle.file.proofs.Stores.{record-length, store-next}
 use Rattle.file.proofs.put_tasks.Statement.{statement}
 use Rattle.file.proofs.put_tasks.Tie as tie

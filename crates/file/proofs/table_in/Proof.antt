@@ -4,7 +4,7 @@ use native.Mathlib.Omega.{arith}
 use borrow.Author.Needs.{needs}
 use Rattle.rules.specs.File.{decode, setsAt, coresIn}
 use Rattle.file.specs.Places.{figuresIn}
-use Rattle.file.proofs.Runs.{sets-full, sets-filled}
+use Rattle.laws.proofs.Runs.{sets-full, sets-filled}
 use Rattle.file.proofs.Steps.{figures-length}
 use Rattle.file.proofs.table_in.Statement.{statement}
 use Rattle.file.proofs.table_in.Tie as tie

@@ -12,7 +12,7 @@ use Rattle.rules.specs.File.{body, encode}
 use Rattle.rules.specs.Sound.{Sound}
 use Rattle.rules.proofs.Accepted.{sound}
 use Rattle.file.proofs.Checks.{length-is}
-use Rattle.file.proofs.Runs.{unmapped}
+use Rattle.laws.proofs.Runs.{unmapped}
 use Rattle.file.proofs.Stores.{body-length}
 use Rattle.file.proofs.Writing.{encode-length, table-refused, no-room, room, file-stores}
 use Rattle.file.proofs.write.Statement.{statement}

@@ -3,7 +3,8 @@ use borrow.Author.Needs.{needs}
 use Prim.Native.Nat.{_≤_, _-_}
 use native.Mathlib.Omega.{arith}
 use Rattle.judge.specs.Same.{alikeTo}
-use Rattle.judge.proofs.Every.{Rest, rest-all, rest-fails, rest-next, rest-passes, rest-done, equals, equal-here, unequal-here, equal-beyond}
+use Rattle.laws.proofs.Every.{Rest, rest-all, rest-fails, rest-next, rest-passes, rest-done}
+use Rattle.judge.proofs.Compared.{equals, equal-here, unequal-here, equal-beyond}
 use Rattle.judge.proofs.alike.Statement.{statement}
 use Rattle.judge.proofs.alike.Tie as tie
 

@@ -6,7 +6,8 @@ use mathlib.Core.Bool.{_&&_}
 use lib.ListN.{length}
 use Rattle.rules.specs.Order.{sameBoard}
 use Rattle.judge.specs.Same.{alikeTo}
-use Rattle.judge.proofs.Every.{unmapped, same-counts}
+use Rattle.laws.proofs.Runs.{unmapped}
+use Rattle.judge.proofs.Compared.{same-counts}
 use Rattle.judge.proofs.same_board.Statement.{statement}
 use Rattle.judge.proofs.same_board.Tie as tie
 

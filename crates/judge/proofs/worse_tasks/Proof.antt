@@ -6,7 +6,9 @@ use Prim.Native.Nat.{_≤_, _-_}
 use native.Mathlib.Omega.{arith}
 use lib.ListN.{length}
 use Rattle.judge.specs.Same.{allWorse}
-use Rattle.judge.proofs.Every.{Rest, rest-all, rest-fails, rest-next, rest-passes, rest-done, unmapped, worse, worse-here, worse-beyond}
+use Rattle.laws.proofs.Every.{Rest, rest-all, rest-fails, rest-next, rest-passes, rest-done}
+use Rattle.laws.proofs.Runs.{unmapped}
+use Rattle.judge.proofs.Compared.{worse, worse-here, worse-beyond}
 use Rattle.judge.proofs.worse_tasks.Statement.{statement}
 use Rattle.judge.proofs.worse_tasks.Tie as tie
 

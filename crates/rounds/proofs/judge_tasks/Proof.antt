@@ -11,7 +11,8 @@ use Rattle.rules.specs.Judgement.{misses}
 use Rattle.laws.proofs.Places.{place-next}
 use Rattle.rounds.specs.Numbered.{climbedFor, firstHigh}
 use Rattle.rounds.proofs.Filled.{core-within, cost-at, eight-weights, at-requires, at-gives}
-use Rattle.rounds.proofs.Firsts.{Left, left-all, left-hit, left-next, left-none, on-time, highs, answerTo, high-is, answer-is, refused-tasks, answered-tasks}
+use Rattle.rules.proofs.First.{Left, left-all, left-hit, left-next, left-none}
+use Rattle.rounds.proofs.Firsts.{on-time, highs, answerTo, high-is, answer-is, refused-tasks, answered-tasks}
 use Rattle.rounds.proofs.judge_tasks.Statement.{statement}
 use Rattle.rounds.proofs.judge_tasks.Tie as tie
 use Rattle.rounds.proofs.judge_tasks.Reads as reads
