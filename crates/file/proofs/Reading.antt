@@ -3,11 +3,9 @@ use mathlib.Core.Path.{_≡_, refl, _∙_}
 use mathlib.Core.Bool.{Bool, true, false, _&&_}
 use mathlib.Core.Logic.{_⊎_, ⊎-elim}
 use mathlib.Core.List.{List, []}
-use Prim.Native.Nat.{ℕ, suc, _+_, _*_, _<_, _≤_}
-use native.Mathlib.Decide.{decLe, ℕ-discrete}
-use native.Mathlib.Omega.{arith}
+use Prim.Native.Nat.{ℕ, _<_, _≤_}
 use lib.ListN.{length}
-use borrow.Author.Tests.{le-leb, lt-leb, eqb-true, not-false}
+use borrow.Author.Tests.{le-leb, lt-leb, not-false}
 use Rattle.rules.specs.declared.Table.{Table}
 use Rattle.rules.specs.Chain.{accepted, refused, isAccepted, given}
 use Rattle.rules.specs.Refusals.{countsFault, checkBoard, checkTable, askedFault}
@@ -17,7 +15,7 @@ use Rattle.rules.proofs.Chain.{both-accepted, no-fault}
 use Rattle.laws.specs.Idioms.{Within}
 use Rattle.laws.proofs.Tests.{inside}
 use Rattle.file.specs.Answers.{readNothing}
-use Rattle.file.proofs.Checks.{length-is, too-short, wrong-length}
+use Rattle.whole.proofs.Checks.{whole-long, whole-length}
 
 -- 5 is given from the counts alone
 and-false : (a : Bool) → a && false ≡ false
@@ -57,23 +55,6 @@ module _ (s : List ℕ) where
         let five : checkTable (decode s) ≡ refused 5 0 = ⊎-elim (many-cores (decode s)) (many-tasks (decode s)) many in
         read-refused (rw five) ∙ rw five
 
-    never : (n : ℕ) → checkWhole s ≡ refused (suc n) 0 → ⊥
-    never n e = omega (arith, eqb-true (suc n) 0 (rw e at came))
-
-    long : 46 ≤ length s
-    long = go (decLe 46 (length s))
-      where
-        go : Dec (46 ≤ length s) → 46 ≤ length s
-        go (yes h) = h
-        go (no n) = absurd (never 0 (too-short s (omega (arith, n))))
-
-    pub whole-length : length s ≡ 46 + 2 * coresIn s + 29 * tasksIn s
-    whole-length = go (ℕ-discrete (length s) (fileLength (formIn s) (coresIn s) (tasksIn s))) ∙ length-is (formIn s) (coresIn s) (tasksIn s)
-      where
-        go : Dec (length s ≡ fileLength (formIn s) (coresIn s) (tasksIn s)) → length s ≡ fileLength (formIn s) (coresIn s) (tasksIn s)
-        go (yes e) = e
-        go (no n) = absurd (never 1 (wrong-length s long n))
-
   pub read-refusal : reading s .refusal ≡ checkFile s
   unfolding reading
   read-refusal = refl
@@ -82,8 +63,8 @@ module _ (s : List ℕ) where
   unfolding checkFile
   file-whole e = both-accepted (checkWhole s) (checkTable (decode s)) e .0
 
-  pub file-length : isAccepted (checkFile s) ≡ true → length s ≡ 46 + 2 * coresIn s + 29 * tasksIn s
-  file-length e = whole-length (file-whole e)
+  pub file-long : isAccepted (checkFile s) ≡ true → 46 ≤ length s
+  file-long e = whole-long s (file-whole e)
 
   module _ (k : ℕ) where
     pub view-refused : isAccepted (checkFile s) ≡ false → checkView s k ≡ checkFile s
@@ -112,8 +93,11 @@ module _ (s : List ℕ) where
       unfolding checkView
       view-links = both-accepted (checkFile s) (given 12 0 (askedFault (decode s) k)) passed
 
-      pub viewed-length : length s ≡ 46 + 2 * coresIn s + 29 * tasksIn s
-      viewed-length = file-length (view-links .0)
+      pub viewed-long : 46 ≤ length s
+      viewed-long = file-long (view-links .0)
+
+      pub viewed-length : length s ≡ fileLength (formIn s) (coresIn s) (tasksIn s)
+      viewed-length = whole-length s (file-whole (view-links .0))
 
       pub viewed-task : Within 1 (tasksIn s) k
       unfolding askedFault decode

@@ -1,7 +1,7 @@
--- One figure more and one task more of a file, as the loops that read them store them. Assumes nothing.
+-- The part that a record is, and one figure more and one task more of a file, as the loops that read them store them. Assumes nothing.
 use mathlib.Core.Path.{_≡_}
 use mathlib.Core.List.{List}
-use Prim.Native.Nat.{ℕ, _+_, _*_, _-_, _<_}
+use Prim.Native.Nat.{ℕ, _+_, _*_, _-_, _<_, _≤_}
 use native.Mathlib.Nat.{add-sub-cancel-left}
 use lib.ListN.{length, set, take, drop}
 use lib.Seq.{sets}
@@ -10,24 +10,30 @@ use Rattle.rules.specs.Tasks.{noTask}
 use Rattle.rules.specs.File.{recordSize, recordAt, recordIn, recordTask, coresIn, formIn}
 use Rattle.laws.specs.Idioms.{number, part, filled}
 use Rattle.laws.proofs.Fill.{fill-step}
+use Rattle.laws.proofs.Parts.{part-length}
+use Rattle.laws.proofs.Runs.{map-below-next, map-upTo-next, length-map-from, sets-next}
+use Rattle.whole.proofs.Places.{record-limit}
 use Rattle.file.specs.Places.{figuresIn, tasksTo}
-use Rattle.laws.proofs.Runs.{map-below-next, length-map-below, map-upTo-next, length-map-upTo, sets-next}
 
 module _ (s : List ℕ) where
   pub figures-length : (at n : ℕ) → length (figuresIn s at n) ≡ n
-  figures-length at n = length-map-below (λ k. number (part s (at + 2 * k) 2)) n
+  figures-length at n = length-map-from (λ k. number (part s (at + 2 * k) 2)) n 0
 
   pub figure-next : (at i : ℕ) (l : List ℕ) → set (sets l 0 (figuresIn s at i)) i (number (part s (at + 2 * i) 2)) ≡ sets l 0 (figuresIn s at (i + 1))
   figure-next at i l =
       let f : ℕ → ℕ = λ k. number (part s (at + 2 * k) 2) in
       rw (map-below-next f i) (sets-next l (figuresIn s at i) i (f i) (figures-length at i))
 
-  -- the part of 29 bytes where record k starts, as code takes it
-  pub part-record : (a k : ℕ) → a ≡ recordAt (formIn s) (coresIn s) k → take (a + 29 - a) (drop a s) ≡ recordIn s k
-  unfolding recordIn recordSize
-  part-record a k e = rw (add-sub-cancel-left, e)
+  -- the part where record k starts, as code takes it; its figures are in it
+  pub part-record : (a size k : ℕ) → a ≡ recordAt (formIn s) (coresIn s) k → size ≡ recordSize (formIn s) → take (a + size - a) (drop a s) ≡ recordIn s k
+  unfolding recordIn
+  part-record a size k e f = rw (add-sub-cancel-left, e, f)
+
+  pub record-long : (k : ℕ) → recordAt (formIn s) (coresIn s) k + recordSize (formIn s) ≤ length s → 29 ≤ length (recordIn s k)
+  unfolding recordIn
+  record-long k h = rw (part-length s (recordAt (formIn s) (coresIn s) k) (recordSize (formIn s)) h) (record-limit (formIn s) .0)
 
   pub task-next : (i : ℕ) → i < 32 → set (filled 32 noTask (tasksTo s i)) i (recordTask (recordIn s (i + 1))) ≡ filled 32 noTask (tasksTo s (i + 1))
   task-next i h =
       let f : ℕ → Task = λ k. recordTask (recordIn s k) in
-      rw (map-upTo-next f i) (fill-step 32 noTask (tasksTo s i) i (f (i + 1)) (length-map-upTo f i) h)
+      rw (map-upTo-next f i) (fill-step 32 noTask (tasksTo s i) i (f (i + 1)) (length-map-from f i 1) h)

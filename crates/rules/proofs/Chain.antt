@@ -1,9 +1,9 @@
--- A chain of refusals that gives none: none of its links does. Assumes nothing.
-use mathlib.Core.Path.{_≡_, refl}
+-- A chain of refusals: where it gives none, none of its links does; and how code walks it. Assumes nothing.
+use mathlib.Core.Path.{_≡_, refl, sym, _∙_}
 use mathlib.Core.Bool.{Bool, true, false, cond}
 use Prim.Native.Nat.{ℕ, suc}
 use native.Mathlib.Omega.{arith}
-use borrow.Author.Tests.{eqb-true}
+use borrow.Author.Tests.{eqb-true, eq-eqb, ne-eqb}
 use Rattle.rules.specs.declared.Refusal.{Refusal}
 use Rattle.rules.specs.Chain.{isAccepted, _orElse_, given}
 
@@ -24,3 +24,11 @@ second-decides a b e = rw e
 pub no-fault : (n place : ℕ) (fault : Bool) → isAccepted (given (suc n) place fault) ≡ true → fault ≡ false
 no-fault n place true e = absurd (omega (arith, eqb-true (suc n) 0 e))
 no-fault n place false e = refl
+
+-- as code walks it: a link that refuses is the answer, and after one that passes the rest is
+module _ (a b : Refusal) {x : Refusal} (is : x ≡ a) where
+  pub stops : (x .number ≡ 0 → ⊥) → x ≡ a orElse b
+  stops h = rw (← is) (sym (first-refuses x b (ne-eqb (x .number) 0 h)))
+
+  pub goes-on : x .number ≡ 0 → {y : Refusal} → y ≡ b → y ≡ a orElse b
+  goes-on h {y} e = rw (← is) (e ∙ sym (second-decides x b (eq-eqb (x .number) 0 h)))

@@ -2,7 +2,7 @@
 use native.Mathlib.Omega.{arith}
 use borrow.Author.Needs.{needs}
 use Rattle.rules.specs.File.{recordTask}
-use Rattle.file.proofs.Parts.{number-one}
+use Rattle.laws.proofs.Parts.{number-one}
 use Rattle.file.proofs.task_in.Statement.{statement}
 use Rattle.file.proofs.task_in.Tie as tie
 

@@ -1,0 +1,42 @@
+-- The first core whose set is at fault. Assumes nothing.
+use Prim.Native.Nat.{_-_}
+use mathlib.Core.Path.{sym, _∙_}
+use borrow.Author.Needs.{needs}
+use native.Mathlib.Omega.{arith}
+use Rattle.rules.specs.Refusals.{setFault}
+use Rattle.rules.proofs.First.{Left, left-all, left-hit, left-next, left-none}
+use Rattle.checks.proofs.check_sets.Statement.{statement}
+use Rattle.checks.proofs.check_sets.Tie as tie
+
+abbrev Inv-loop : tie.InvT-loop
+Inv-loop t i₀ i = Left 8 (setFault t) (t .cores) i
+
+abbrev μ-loop : tie.MeasureT-loop
+μ-loop t i₀ i = (t .cores) - i
+
+returns : tie.Need-returns Inv-loop μ-loop
+returns c = c .refusal .ensures ∙ left-hit _ _ _ _ (c .before .before .before .before .before .loop .inv) (omega arith) (sym (c .before .before .set-fault .ensures) ∙ c .before .if2 .taken)
+
+loop-again : tie.Need-loop-again Inv-loop μ-loop
+loop-again c = left-next _ _ _ _ (c .before .before .before .before .loop .inv) (omega arith) (sym (c .before .set-fault .ensures) ∙ c .if2 .left)
+
+returns-2 : tie.Need-returns-2 Inv-loop μ-loop
+returns-2 c = c .refusal2 .ensures ∙ left-none _ _ _ _ (c .before .before .before .loop .inv) (omega arith)
+
+pub check-sets-spec : {M : Type 1} → statement M
+check-sets-spec =
+    tie.close
+    (tie.spec
+    Inv-loop
+    μ-loop
+    (λ c. left-all _ _ _)
+    (λ c. omega arith)
+    (λ c κs. search needs)
+    (λ c. omega arith)
+    (λ c κs. search needs)
+    returns
+    (λ c. omega arith)
+    (λ c. omega arith)
+    loop-again
+    (λ c κs. search needs)
+    returns-2)

@@ -1,0 +1,37 @@
+-- `delays::run` meets its contract. Assumes nothing.
+use native.Mathlib.Omega.{arith}
+use borrow.Author.Needs.{needs}
+use Rattle.rules.specs.Delays.{run}
+use Rattle.delays.proofs.run.Statement.{statement}
+use Rattle.delays.proofs.run.Tie as tie
+
+returns : tie.Need-returns
+unfolding run
+returns c =
+    let b = c .before .before in
+    let a = b .before .before in
+    rw (
+      c .less .ensures,
+      c .before .figure3 .ensures .0,
+      b .figure2 .ensures .0,
+      b .before .times2 .ensures .0,
+      a .figure .ensures .0,
+      a .before .times .ensures .0,
+      a .before .before .turn .ensures .0,
+    )
+
+pub run-spec : {M : Type 1} → statement M
+run-spec =
+    tie.close
+    (tie.spec
+    (λ c. omega arith)
+    (λ c κs. search needs)
+    (λ c κs. (omega arith, c .turn .ensures .1))
+    (λ c κs. search needs)
+    (λ c κs. (omega arith, omega arith))
+    (λ c. omega arith)
+    (λ c κs. search needs)
+    (λ c κs. search needs)
+    (λ c κs. search needs)
+    (λ c. omega arith)
+    returns)

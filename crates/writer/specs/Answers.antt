@@ -1,0 +1,21 @@
+-- The counts of a table as bytes, what a refused writing answers, and what writing promises. Assumes nothing.
+use Prim.Native.Nat.{ℕ}
+use mathlib.Core.Path.{_≡_}
+use mathlib.Core.List.{List, [], _∷_}
+use Rattle.rules.specs.declared.Table.{Table}
+use Rattle.rules.specs.declared.Refusal.{Refusal}
+use Rattle.rules.specs.declared.Written.{Written}
+use Rattle.rules.specs.Operations.{writing, outAfter}
+
+-- "4 bytes: cores, partitions, tasks, 0"
+abbrev pub counts : Table → List ℕ
+counts t = t .cores ∷ t .partitions ∷ t .tasks ∷ t .fourth ∷ []
+
+-- "a refused writing the length 0"
+abbrev pub wroteNothing : Refusal → Written
+wroteNothing refusal = record { refusal = refusal; length = 0 }
+
+-- the answer of writing t into a buffer, and the buffer's bytes afterwards
+pub record Wrote (t : Table) (before : List ℕ) (answer : Written) (after : List ℕ) : Type 0 where
+  pub answered : answer ≡ writing t before
+  pub stored : after ≡ outAfter t before
