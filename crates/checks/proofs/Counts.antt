@@ -1,31 +1,34 @@
 -- What refusal 5 decides, and what it leaves to 6 to 8: counts within their limits. Assumes nothing.
-use Prim.Native.Nat.{_≤_}
+use Prim.Native.Nat.{ℕ, _≤_}
 use mathlib.Core.Path.{_≡_}
 use mathlib.Core.Bool.{true, false, _&&_}
+use mathlib.Core.List.{List}
 use lib.Dec.{eqb}
 use borrow.Author.Tests.{not-false}
-use Rattle.rules.specs.declared.Table.{Table}
-use Rattle.rules.specs.Chain.{refused, _orElse_, first}
-use Rattle.rules.specs.Refusals.{fourthAllowed, countsFault, setFault, checkTiming, checkBoard}
-use Rattle.laws.specs.Idioms.{within}
+use Rattle.laws.specs.Idioms.{entry, within}
 use Rattle.laws.proofs.Tests.{and-both, inside}
+use Rattle.rules.specs.Timing.{Row}
+use Rattle.rules.specs.Chain.{refused, _orElse_, first}
+use Rattle.rules.specs.Refusals.{fourthAllowed, countsFault, setFault, checkTiming, boardRefusal}
 
-module _ (t : Table) where
-  pub counts-refuse : countsFault t ≡ true → refused 5 0 ≡ checkBoard t
-  unfolding checkBoard
-  counts-refuse e = simp e
+module _ (cores partitions tasks fourth : ℕ) where
+  module _ (row : Row) (sets : List ℕ) where
+    pub counts-refuse : countsFault cores partitions tasks fourth ≡ true → refused 5 0 ≡ boardRefusal cores partitions tasks fourth row sets
+    unfolding boardRefusal
+    counts-refuse e = simp e
 
-  pub counts-pass : countsFault t ≡ false → checkTiming (t .timing) orElse first 8 (setFault t) (t .cores) ≡ checkBoard t
-  unfolding checkBoard
-  counts-pass e = simp e
+    pub counts-pass : countsFault cores partitions tasks fourth ≡ false
+        → checkTiming row orElse first 8 (λ p. setFault partitions (entry 0 sets p)) cores ≡ boardRefusal cores partitions tasks fourth row sets
+    unfolding boardRefusal
+    counts-pass e = simp e
 
-counts-hold : (t : Table) → countsFault t ≡ false → within 1 8 (t .cores) && within 1 16 (t .partitions) && within 1 32 (t .tasks) && eqb (t .fourth) 0 ≡ true
-unfolding countsFault fourthAllowed
-counts-hold t e = not-false _ e
+  counts-hold : countsFault cores partitions tasks fourth ≡ false → within 1 8 cores && within 1 16 partitions && within 1 32 tasks && eqb fourth 0 ≡ true
+  unfolding countsFault fourthAllowed
+  counts-hold e = not-false _ e
 
-pub counts-inside : (t : Table) → countsFault t ≡ false → (t .cores ≤ 8) × (t .partitions ≤ 16)
-counts-inside t e =
-    let (rest, fourth) = and-both _ _ (counts-hold t e) in
-    let (front, tasks) = and-both _ _ rest in
-    let (cores, partitions) = and-both _ _ front in
-    (inside _ _ _ cores .high, inside _ _ _ partitions .high)
+  pub counts-inside : countsFault cores partitions tasks fourth ≡ false → (cores ≤ 8) × (partitions ≤ 16)
+  counts-inside e =
+      let (rest, _) = and-both _ _ (counts-hold e) in
+      let (front, _) = and-both _ _ rest in
+      let (few, some) = and-both _ _ front in
+      (inside _ _ _ few .high, inside _ _ _ some .high)

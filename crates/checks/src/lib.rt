@@ -3,12 +3,12 @@ ghost use mathlib.Core.Path.{_≡_};
 ghost use mathlib.Core.Bool.{not, _||_};
 ghost use Prim.Native.Nat.{_%_, _≤_};
 ghost use lib.Dec.{eqb};
-ghost use Rattle.laws.specs.Idioms.{within};
-ghost use Rattle.rules.specs.Tasks.{taskOf};
+ghost use Rattle.laws.specs.Idioms.{entry, within};
+ghost use Rattle.rules.specs.Tasks.{noTask};
 ghost use Rattle.rules.specs.Chain.{refused, first};
 ghost use Rattle.rules.specs.Refusals.{countsFault, figureFault, relationFault, setFault, timeFault};
-ghost use Rattle.rules.specs.Refusals.{checkTiming, checkBoard, checkTasks, checkTable};
-ghost use Rattle.checks.specs.Faults.{taskFault};
+ghost use Rattle.rules.specs.Refusals.{checkTiming, boardRefusal, checkBoard, checkTasks, checkTable};
+ghost use Rattle.checks.specs.Faults.{earliest, noFaults, withTask, toldBy};
 use delays::figure;
 use rules::Picos;
 use rules::Refusal;
@@ -39,19 +39,19 @@ fn outside(lowest: u64, highest: u64, x: u64) -> bool
 }
 
 // "Cores 1 to 8, partitions 1 to 16, tasks 1 to 32", and the fourth byte.
-fn counts_fault(t: Table) -> bool
-    ensures { λ r. ⌜ r ≡ countsFault t ⌝ }
+fn counts_fault(cores: u8, partitions: u8, tasks: u8, fourth: u8) -> bool
+    ensures { λ r. ⌜ r ≡ countsFault cores partitions tasks fourth ⌝ }
 {
-    if outside(1, 8, t.cores as u64) {
+    if outside(1, 8, cores as u64) {
         return true;
     }
-    if outside(1, 16, t.partitions as u64) {
+    if outside(1, 16, partitions as u64) {
         return true;
     }
-    if outside(1, 32, t.tasks as u64) {
+    if outside(1, 32, tasks as u64) {
         return true;
     }
-    if t.fourth != 0 {
+    if fourth != 0 {
         return true;
     }
     false
@@ -150,28 +150,27 @@ fn check_timing(row: [u16; 15]) -> Refusal
     check_relations(row)
 }
 
-fn set_fault(t: Table, p: u8) -> bool
-    requires { ⌜ (1 ≤ p) × (p ≤ 8) × (t .partitions ≤ 16) ⌝ }
-    ensures { λ r. ⌜ r ≡ setFault t p ⌝ }
+fn set_fault(partitions: u8, set: u16) -> bool
+    requires { ⌜ partitions ≤ 16 ⌝ }
+    ensures { λ r. ⌜ r ≡ setFault partitions set ⌝ }
 {
-    let set = t.sets[(p - 1) as usize];
     if set == 0 {
         return true;
     }
-    if 1u32 << t.partitions <= set as u32 {
+    if 1u32 << partitions <= set as u32 {
         return true;
     }
     false
 }
 
 // 8 "a core's set is empty or names a partition above the count"
-fn check_sets(t: Table) -> Refusal
-    requires { ⌜ (t .cores ≤ 8) × (t .partitions ≤ 16) ⌝ }
-    ensures { λ r. ⌜ r ≡ first 8 (setFault t) (t .cores) ⌝ }
+fn check_sets(cores: u8, partitions: u8, sets: &[u16; 8]) -> Refusal
+    requires { ⌜ (cores ≤ 8) × (partitions ≤ 16) ⌝ }
+    ensures { λ r. ⌜ r ≡ first 8 (λ p. setFault partitions (entry 0 (now (sets .entry)) p)) cores ⌝ }
 {
     let mut i: u8 = 0;
-    while i < t.cores {
-        if set_fault(t, i + 1) {
+    while i < cores {
+        if set_fault(partitions, sets[i as usize]) {
             return refusal(8, i + 1);
         }
         i += 1;
@@ -179,19 +178,33 @@ fn check_sets(t: Table) -> Refusal
     refusal(0, 0)
 }
 
-// 5 to 8: the board.
-pub fn check_board(t: Table) -> Refusal
-    ensures { λ r. ⌜ r ≡ checkBoard t ⌝ }
+// 5 to 8: the board, by its counts, its timing figures and its sets.
+pub fn board_refusal(
+    cores: u8,
+    partitions: u8,
+    tasks: u8,
+    fourth: u8,
+    row: [u16; 15],
+    sets: &[u16; 8],
+) -> Refusal
+    ensures { λ r. ⌜ r ≡ boardRefusal cores partitions tasks fourth row (now (sets .entry)) ⌝ }
 {
-    if counts_fault(t) {
+    if counts_fault(cores, partitions, tasks, fourth) {
         return refusal(5, 0);
     }
-    let row = t.timing;
     let timing = check_timing(row);
     if timing.number != 0 {
         return timing;
     }
-    check_sets(t)
+    check_sets(cores, partitions, sets)
+}
+
+pub fn check_board(t: Table) -> Refusal
+    ensures { λ r. ⌜ r ≡ checkBoard t ⌝ }
+{
+    let row = t.timing;
+    let sets = t.sets;
+    board_refusal(t.cores, t.partitions, t.tasks, t.fourth, row, &sets)
 }
 
 // "10^8 ≤ T ≤ 10^12; 1 ≤ D ≤ T; 1 ≤ C ≤ D"
@@ -207,39 +220,62 @@ fn time_fault(x: Task) -> bool
     outside(1, x.deadline.0, x.exec.0)
 }
 
-// Whether a task meets 9, 10 or 11, by the number.
-fn task_fault(number: u8, cores: u8, x: Task) -> bool
-    ensures { λ r. ⌜ r ≡ taskFault number cores x ⌝ }
-{
-    if number == 9 {
-        return outside(1, cores as u64, x.core as u64);
-    }
-    if number == 10 {
-        return time_fault(x);
-    }
-    1000000 < x.requests
+// The first task at fault of each kind, 9 to 11; 0 where none is.
+pub struct Faults {
+    pub core: u8,
+    pub time: u8,
+    pub request: u8,
 }
 
-fn any_fault(cores: u8, x: Task) -> bool
-    ensures { λ r. ⌜ r ≡ (taskFault 9 cores x || taskFault 10 cores x || taskFault 11 cores x) ⌝ }
+fn earlier(seen: u8, k: u8, fault: bool) -> u8
+    ensures { λ r. ⌜ r ≡ earliest seen k fault ⌝ }
 {
-    if task_fault(9, cores, x) {
-        return true;
+    if seen != 0 {
+        return seen;
     }
-    if task_fault(10, cores, x) {
-        return true;
-    }
-    task_fault(11, cores, x)
+    if fault { k } else { 0 }
 }
 
-// Task number k; no task where there is none.
-fn task_of(t: Table, k: u8) -> Task
-    requires { ⌜ 1 ≤ k ⌝ }
-    ensures { λ r. ⌜ r ≡ taskOf t k ⌝ }
+pub fn no_faults() -> Faults
+    ensures { λ r. ⌜ r ≡ noFaults ⌝ }
 {
-    if k <= 32 {
-        return t.task[(k - 1) as usize];
+    Faults {
+        core: 0,
+        time: 0,
+        request: 0,
     }
+}
+
+// What has been seen, and task number k.
+pub fn noted(seen: Faults, k: u8, cores: u8, x: Task) -> Faults
+    ensures { λ r. ⌜ r ≡ withTask seen k cores x ⌝ }
+{
+    Faults {
+        core: earlier(seen.core, k, outside(1, cores as u64, x.core as u64)),
+        time: earlier(seen.time, k, time_fault(x)),
+        request: earlier(seen.request, k, 1000000 < x.requests),
+    }
+}
+
+// "The lowest number that applies is given": 9, then 10, then 11.
+pub fn told(seen: Faults) -> Refusal
+    ensures { λ r. ⌜ r ≡ toldBy seen ⌝ }
+{
+    if seen.core != 0 {
+        return refusal(9, seen.core);
+    }
+    if seen.time != 0 {
+        return refusal(10, seen.time);
+    }
+    if seen.request != 0 {
+        return refusal(11, seen.request);
+    }
+    refusal(0, 0)
+}
+
+pub fn no_task() -> Task
+    ensures { λ r. ⌜ r ≡ noTask ⌝ }
+{
     Task {
         core: 0,
         exec: Picos(0),
@@ -249,51 +285,21 @@ fn task_of(t: Table, k: u8) -> Task
     }
 }
 
-// 9, 10 or 11, over the tasks.
-fn walk_tasks(number: u8, t: Table) -> Refusal
-    ensures { λ r. ⌜ r ≡ first number (λ k. taskFault number (t .cores) (taskOf t k)) (t .tasks) ⌝ }
-{
-    let mut i: u8 = 0;
-    while i < t.tasks {
-        if task_fault(number, t.cores, task_of(t, i + 1)) {
-            return refusal(number, i + 1);
-        }
-        i += 1;
-    }
-    refusal(0, 0)
-}
-
-// "The lowest number that applies is given": 9, then 10, then 11.
-fn first_fault(t: Table) -> Refusal
-    ensures { λ r. ⌜ r ≡ checkTasks t ⌝ }
-{
-    let cores = walk_tasks(9, t);
-    if cores.number != 0 {
-        return cores;
-    }
-    let times = walk_tasks(10, t);
-    if times.number != 0 {
-        return times;
-    }
-    walk_tasks(11, t)
-}
-
-// 9 to 11: the tasks. One walk finds that no task is at fault; which fault comes first is asked only where there is one.
+// 9 to 11: the tasks, in one walk. Beyond the array there is no task.
 pub fn check_tasks(t: Table) -> Refusal
     ensures { λ r. ⌜ r ≡ checkTasks t ⌝ }
 {
-    if 32 < t.tasks {
-        return first_fault(t);
-    }
+    let mut seen = no_faults();
     let mut i: u8 = 0;
     while i < t.tasks {
-        let x = t.task[i as usize];
-        if any_fault(t.cores, x) {
-            return first_fault(t);
+        let mut x = no_task();
+        if i < 32 {
+            x = t.task[i as usize];
         }
+        seen = noted(seen, i + 1, t.cores, x);
         i += 1;
     }
-    refusal(0, 0)
+    told(seen)
 }
 
 // "a table passed directly meets 5 to 11"

@@ -11,7 +11,7 @@ use Rattle.rules.specs.Timing.{Row, tWR, tWTR, ranges}
 use Rattle.rules.specs.Tasks.{C, T, D, H, taskOf}
 use Rattle.rules.specs.Cores.{setOf}
 use Rattle.rules.specs.Chain.{isAccepted, _orElse_, given, first}
-use Rattle.rules.specs.Refusals.{fourthAllowed, countsFault, figureFault, relationsHold, relationFault, checkTiming, setFault, coreFault, timeFault, requestFault, checkBoard, checkTasks, checkTable}
+use Rattle.rules.specs.Refusals.{fourthAllowed, countsFault, figureFault, relationsHold, relationFault, checkTiming, setFault, coreFault, timeFault, requestFault, boardRefusal, tasksRefusal, checkBoard, checkTasks, checkTable}
 use Rattle.rules.specs.Sound.{SoundRow, SoundTask, Sound}
 use Rattle.rules.proofs.First.{none-first}
 use Rattle.rules.proofs.Chain.{both-accepted, no-fault}
@@ -63,16 +63,22 @@ module _ (t : Table) (passed : isAccepted (checkTable t) ≡ true) where
   unfolding checkTable
   tasks-passed = both-accepted (checkBoard t) (checkTasks t) passed .1
 
-  board-links : (isAccepted (given 5 0 (countsFault t) orElse checkTiming (t .timing)) ≡ true) × (isAccepted (first 8 (setFault t) (t .cores)) ≡ true)
-  unfolding checkBoard
-  board-links = both-accepted (given 5 0 (countsFault t) orElse checkTiming (t .timing)) (first 8 (setFault t) (t .cores)) board-passed
+  counts-link : Refusal
+  counts-link = given 5 0 (countsFault (t .cores) (t .partitions) (t .tasks) (t .fourth))
 
-  first-links : (isAccepted (given 5 0 (countsFault t)) ≡ true) × (isAccepted (checkTiming (t .timing)) ≡ true)
-  first-links = both-accepted (given 5 0 (countsFault t)) (checkTiming (t .timing)) (board-links .0)
+  sets-link : Refusal
+  sets-link = first 8 (λ p. setFault (t .partitions) (setOf t p)) (t .cores)
+
+  board-links : (isAccepted (counts-link orElse checkTiming (t .timing)) ≡ true) × (isAccepted sets-link ≡ true)
+  unfolding checkBoard boardRefusal counts-link sets-link
+  board-links = both-accepted (counts-link orElse checkTiming (t .timing)) sets-link board-passed
+
+  first-links : (isAccepted counts-link ≡ true) × (isAccepted (checkTiming (t .timing)) ≡ true)
+  first-links = both-accepted counts-link (checkTiming (t .timing)) (board-links .0)
 
   counts-hold : within 1 8 (t .cores) && within 1 16 (t .partitions) && within 1 32 (t .tasks) && eqb (t .fourth) 0 ≡ true
-  unfolding countsFault fourthAllowed
-  counts-hold = not-false _ (no-fault 4 0 (countsFault t) (first-links .0))
+  unfolding counts-link countsFault fourthAllowed
+  counts-hold = not-false _ (no-fault 4 0 (countsFault (t .cores) (t .partitions) (t .tasks) (t .fourth)) (first-links .0))
 
   counts : (Within 1 8 (t .cores) × Within 1 16 (t .partitions)) × (Within 1 32 (t .tasks) × (t .fourth ≡ 0))
   counts =
@@ -83,14 +89,14 @@ module _ (t : Table) (passed : isAccepted (checkTable t) ≡ true) where
 
   module _ (p : ℕ) (low : 1 ≤ p) (high : p ≤ t .cores) where
     set-clear : (eqb (setOf t p) 0 ≡ false) × (not (ltb (setOf t p) (2 ^ t .partitions)) ≡ false)
-    unfolding setFault
-    set-clear = or-neither _ _ (none-first 7 (setFault t) (t .cores) (board-links .1) p low high)
+    unfolding setFault sets-link
+    set-clear = or-neither _ _ (none-first 7 (λ p. setFault (t .partitions) (setOf t p)) (t .cores) (board-links .1) p low high)
 
     set-facts : (1 ≤ setOf t p) × (setOf t p < 2 ^ t .partitions)
     set-facts = (omega (arith, eqb-false (setOf t p) 0 (set-clear .0)), ltb-true _ _ (not-false _ (set-clear .1)))
 
   core-link : Refusal
-  core-link = first 9 (λ k. coreFault t (taskOf t k)) (t .tasks)
+  core-link = first 9 (λ k. coreFault (t .cores) (taskOf t k)) (t .tasks)
 
   time-link : Refusal
   time-link = first 10 (λ k. timeFault (taskOf t k)) (t .tasks)
@@ -99,13 +105,13 @@ module _ (t : Table) (passed : isAccepted (checkTable t) ≡ true) where
   request-link = first 11 (λ k. requestFault (taskOf t k)) (t .tasks)
 
   task-links : (isAccepted (core-link orElse time-link) ≡ true) × (isAccepted request-link ≡ true)
-  unfolding checkTasks core-link time-link request-link
+  unfolding checkTasks tasksRefusal core-link time-link request-link
   task-links = both-accepted (core-link orElse time-link) request-link tasks-passed
 
   module _ (k : ℕ) (low : 1 ≤ k) (high : k ≤ t .tasks) where
     core-holds : within 1 (t .cores) (taskOf t k .core) ≡ true
     unfolding core-link coreFault
-    core-holds = not-false _ (none-first 8 (λ k. coreFault t (taskOf t k)) (t .tasks) (both-accepted core-link time-link (task-links .0) .0) k low high)
+    core-holds = not-false _ (none-first 8 (λ k. coreFault (t .cores) (taskOf t k)) (t .tasks) (both-accepted core-link time-link (task-links .0) .0) k low high)
 
     times-hold : within (10 ^ 8) (10 ^ 12) (T (taskOf t k)) && within 1 (T (taskOf t k)) (D (taskOf t k)) && within 1 (D (taskOf t k)) (C (taskOf t k)) ≡ true
     unfolding time-link timeFault

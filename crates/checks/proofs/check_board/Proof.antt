@@ -1,40 +1,12 @@
--- 5 to 8 in their order. Assumes nothing.
-use mathlib.Core.Path.{sym, _∙_}
+-- 5 to 8 of a table. Assumes nothing.
 use borrow.Author.Needs.{needs}
-use Rattle.checks.proofs.Counts.{counts-refuse, counts-pass, counts-inside}
-use Rattle.rules.proofs.Chain.{stops, goes-on}
+use Rattle.rules.specs.Refusals.{checkBoard}
 use Rattle.checks.proofs.check_board.Statement.{statement}
 use Rattle.checks.proofs.check_board.Tie as tie
 
 returns : tie.Need-returns
-returns c = c .refusal .ensures ∙ counts-refuse _ (sym (c .before .before .counts-fault .ensures) ∙ c .before .if1 .taken)
-
-returns-2 : tie.Need-returns-2
-returns-2 c =
-    let timing = c .before .before in
-    let counts = timing .before .before in
-    stops _ _ (timing .check-timing .ensures) (c .if2 .taken) ∙ counts-pass _ (sym (counts .before .counts-fault .ensures) ∙ counts .if1 .left)
-
-check-sets-requires : tie.Need-check-sets-requires
-check-sets-requires c κs =
-    let counts = c .before .before .before .before in
-    counts-inside _ (sym (counts .before .counts-fault .ensures) ∙ counts .if1 .left)
-
-returns-3 : tie.Need-returns-3
-returns-3 c =
-    let timing = c .before .before .before in
-    let counts = timing .before .before in
-    goes-on _ _ (timing .check-timing .ensures) (c .before .if2 .left) (c .check-sets .ensures)
-    ∙ counts-pass _ (sym (counts .before .counts-fault .ensures) ∙ counts .if1 .left)
+unfolding checkBoard
+returns c = c .board-refusal .ensures
 
 pub check-board-spec : {M : Type 1} → statement M
-check-board-spec =
-    tie.close
-    (tie.spec
-    (λ c κs. search needs)
-    (λ c κs. search needs)
-    returns
-    (λ c κs. search needs)
-    returns-2
-    check-sets-requires
-    returns-3)
+check-board-spec = tie.close (tie.spec (λ c κs. search needs) returns)

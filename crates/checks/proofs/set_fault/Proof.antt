@@ -2,7 +2,6 @@
 use Prim.Native.Nat.{ℕ, _*_, _^_, _%_, _≤_, _<_}
 use mathlib.Core.Path.{_≡_}
 use native.Mathlib.Nat.{one-mul, mod-eq-of-lt, lt-of-le-of-lt}
-use native.Mathlib.Omega.{arith}
 use lib.Pow.{pow-mono}
 use lib.Dec.{lit<}
 use borrow.Author.Needs.{needs}
@@ -24,26 +23,14 @@ returns c = simp (eq-eqb _ _ (c .if1 .taken))
 returns-2 : tie.Need-returns-2
 unfolding setFault
 returns-2 c =
-    let s = c .before .before .before in
-    simp (ne-eqb _ _ (c .before .if1 .left), le-ltb _ _ (simp (shifted (s .args .t1 .partitions) (s .pre .2)) at (c .if2 .taken)))
+    let s = c .before .before in
+    simp (ne-eqb _ _ (c .before .if1 .left), le-ltb _ _ (simp (shifted (s .args .partitions) (s .pre)) at (c .if2 .taken)))
 
 returns-3 : tie.Need-returns-3
 unfolding setFault
 returns-3 c =
-    let s = c .before .before .before in
-    simp (ne-eqb _ _ (c .before .if1 .left), lt-ltb _ _ (simp (shifted (s .args .t1 .partitions) (s .pre .2)) at (c .if2 .left)))
+    let s = c .before .before in
+    simp (ne-eqb _ _ (c .before .if1 .left), lt-ltb _ _ (simp (shifted (s .args .partitions) (s .pre)) at (c .if2 .left)))
 
 pub set-fault-spec : {M : Type 1} → statement M
-set-fault-spec =
-    tie.close
-    (tie.spec
-    (λ c. omega arith)
-    (λ c. search needs)
-    (λ c. search needs)
-    (λ c. search needs)
-    returns
-    (λ c. search needs)
-    (λ c. search needs)
-    (λ c. search needs)
-    returns-2
-    returns-3)
+set-fault-spec = tie.close (tie.spec returns (λ c. search needs) returns-2 returns-3)
