@@ -16,17 +16,18 @@ use Rattle.board.specs.Masks.{asBit, maskFrom}
 
 -- ---- one bit more, below the others
 
+pub bit-high : (b : Bool) → asBit b ≤ 1
+bit-high true = omega arith
+bit-high false = omega arith
+
 low : (b : Bool) (m : ℕ) → (asBit b + 2 * m) % 2 ≡ asBit b
-low true m = omega arith
-low false m = omega arith
+low b m = omega (arith, bit-high b)
 
 high : (b : Bool) (m : ℕ) → (asBit b + 2 * m) / 2 ≡ m
-high true m = omega arith
-high false m = omega arith
+high b m = omega (arith, bit-high b)
 
 below : (b : Bool) (m k : ℕ) → m < k → asBit b + 2 * m < k * 2
-below true m k h = omega arith
-below false m k h = omega arith
+below b m k h = omega (arith, bit-high b)
 
 both : (b c : Bool) (m : ℕ) → m * 2 + min (asBit b) (asBit c) ≡ asBit (b && c) + 2 * m
 both true true m = omega arith

@@ -1,30 +1,33 @@
--- The weight of a core's request from the bits of near and far cores, and RD from the weights. Assumes nothing.
-use mathlib.Core.Path.{_≡_, refl, ap, fun-ext}
-use mathlib.Core.Bool.{Bool, true, false, cond, and-comm, _&&_}
-use mathlib.Core.List.{List, [], _∷_}
-use Prim.Native.Nat.{ℕ, _+_, _*_, _-_, _/_, _%_, _^_, _≤_}
-use native.Mathlib.Nat.{mul-le-mul}
+-- Weights and RD from the bits of near and far cores, and from the weights. Assumes nothing.
+use mathlib.Core.Path.{_≡_, refl, ap, fun-ext, sym}
+use mathlib.Core.Bool.{Bool, true, false, cond, _&&_}
+use mathlib.Core.List.{List, [], _∷_, map}
+use Prim.Native.Nat.{ℕ, _+_, _*_, _-_, _/_, _%_, _^_, _≤_, _<_}
+use native.Mathlib.Nat.{mul-le-mul, one-mul, mul-le-mul-right}
 use native.Mathlib.Decide.{ℕ-discrete}
 use native.Mathlib.Omega.{arith}
-use borrow.Author.Tests.{ne-eqb}
+use borrow.Author.Tests.{ne-eqb, eq-eqb}
 use lib.Bits.{bitAnd}
 use lib.Count.{ones}
 use lib.Dec.{eqb}
-use lib.ListN.{length}
+use lib.ListN.{length, replicate, set}
 use Rattle.rules.specs.declared.Table.{Table}
-use Rattle.laws.specs.Idioms.{sumOver, those, some, upTo, below, entry}
 use Rattle.rules.specs.Timing.{Row}
-use Rattle.rules.specs.Cores.{bit, share, setOf, isNear, isFar, near}
+use Rattle.rules.specs.Cores.{setOf, isNear, isFar, near, far}
 use Rattle.rules.specs.Sound.{SoundRow}
-use Rattle.rules.specs.Dram.{crossing, conflict}
-use Rattle.rules.specs.Board.{weight}
-use Rattle.timing.specs.declared.Figures.{Figures}
-use Rattle.timing.specs.Figures.{figuresOf, FiguresBounded}
-use Rattle.timing.proofs.Bounds.{bounded}
+use Rattle.rules.specs.Dram.{crossing, conflict, inter, intra, RD}
+use Rattle.rules.specs.Board.{weight, pricesOf}
+use Rattle.rules.proofs.Weights.{share-comm, by-weights}
+use Rattle.delays.specs.declared.Figures.{Figures}
+use Rattle.delays.specs.Figures.{figuresOf, FiguresBounded}
+use Rattle.delays.proofs.Bounds.{bounded}
 use Rattle.board.specs.Masks.{asBit, mask, farMasks}
-use Rattle.board.specs.Costs.{Shows}
-use Rattle.laws.proofs.Places.{place-of}
-use Rattle.board.proofs.Masks.{mask-ones, mask-bit, mask-and}
+use Rattle.board.specs.Costs.{Shows, costsOf}
+use Rattle.board.specs.declared.CoreCosts.{CoreCosts}
+use Rattle.laws.specs.Idioms.{sumOver, those, upTo, entry, isEmpty, from, filled}
+use Rattle.laws.proofs.Sums.{sum-append, upTo-next}
+use Rattle.laws.proofs.Places.{place-of, place-next}
+use Rattle.board.proofs.Masks.{mask-ones, mask-bit, mask-and, mask-none}
 
 -- ---- far goes both ways
 
@@ -35,12 +38,8 @@ eqb-both a b = go (ℕ-discrete a b)
     go (yes e) = rw e
     go (no apart) = rw (ne-eqb a b apart, ne-eqb b a (λ e. apart (omega arith)))
 
-share-both : (a b : ℕ) → share a b ≡ share b a
-unfolding share
-share-both a b = ap (λ (test : ℕ → Bool). some test (below 16)) (fun-ext (λ k. and-comm (bit a k) (bit b k)))
-
 far-both : (t : Table) (p q : ℕ) → isFar t p q ≡ isFar t q p
-far-both t p q = rw (eqb-both q p, share-both (setOf t p) (setOf t q))
+far-both t p q = rw (eqb-both q p, share-comm (setOf t p) (setOf t q))
 
 -- ---- the weight
 
@@ -110,3 +109,72 @@ charge-high b n k few one =
 
 pub small : {w : Row} {f : Figures} → SoundRow w → f ≡ figuresOf w → FiguresBounded f
 small {w} s e = rw e (bounded w s)
+
+-- ---- RD
+
+-- what RD has beside one request of each core
+abbrev rowPart : Table → ℕ → ℕ
+rowPart t p =
+    cond (isEmpty (near t p)) 0
+    (figuresOf (t .timing) .run .0 + figuresOf (t .timing) .window * figuresOf (t .timing) .readwrite .0 * length (far t p) + figuresOf (t .timing) .reopen .0)
+
+-- a sum over no members is 0, whether it is left out or not
+set-apart : (l : List ℕ) (f : ℕ → ℕ) (x y : ℕ) → x + cond (isEmpty l) 0 (y + sumOver l f) ≡ cond (isEmpty l) 0 y + (x + sumOver l f)
+set-apart [] f x y = omega arith
+set-apart (q ∷ l) f x y = omega arith
+
+module _ (t : Table) (p : ℕ) where
+  one-each : sumOver (upTo (t .cores)) (weight t p) ≡ inter t p + sumOver (near t p) (λ q. conflict t .0 + inter t q)
+  unfolding inter
+  one-each = simp one-mul at (sym (by-weights t (λ q. 1) p))
+
+  RD-by-weights : RD t p ≡ rowPart t p + sumOver (upTo (t .cores)) (weight t p)
+  unfolding RD intra figuresOf
+  RD-by-weights = rw one-each (set-apart (near t p) (λ q. conflict t .0 + inter t q) (inter t p) _)
+
+module _ {p nears : ℕ} {fars : List ℕ} {f : Figures} {t : Table} (s : Shows p nears fars f t) {weights : ℕ} (sum : weights ≡ sumOver (upTo (t .cores)) (weight t p)) where
+  none-near : eqb nears 0 ≡ isEmpty (near t p)
+  unfolding near
+  none-near = rw (s .near-is) (mask-none (isNear t p) 1 (t .cores))
+
+  pub RD-none : nears ≡ 0 → weights ≡ RD t p
+  RD-none e = rw (RD-by-weights, ← none-near, eq-eqb nears 0 e) (omega arith)
+
+  far-count : 1 ≤ p → p ≤ t .cores → ones (entry 0 fars p) ≡ length (far t p)
+  unfolding far
+  far-count low high = rw (fars-at s p low high, mask-ones (isFar t p) 1 (t .cores))
+
+  pub RD-some : (nears ≡ 0 → ⊥) → 1 ≤ p → p ≤ t .cores → f .run .0 + f .window * f .readwrite .0 * ones (entry 0 fars p) + f .reopen .0 + weights ≡ RD t p
+  RD-some some low high = rw (RD-by-weights, ← none-near, ne-eqb nears 0 some, far-count low high, s .figures-are, sum)
+
+pub row-high : {f : Figures} → FiguresBounded f → (n : ℕ)
+    → (f .window * f .readwrite .0 ≤ 7 * 10 ^ 8) × (f .run .0 + f .window * f .readwrite .0 * n + f .reopen .0 ≤ 5 * 10 ^ 8 + 7 * 10 ^ 8 * n)
+row-high {f} b n =
+    let each : f .window * f .readwrite .0 ≤ 512 * (262 * 5000) = mul-le-mul (b .window-high) (b .readwrite-high) in
+    let all : f .window * f .readwrite .0 * n ≤ 512 * (262 * 5000) * n = mul-le-mul-right n each in
+    (omega arith, omega (arith, b .run-high, b .reopen-high))
+
+-- ---- both costs, as a loop over the cores gathers them: q cores have been weighed
+
+pub record SoFar (t : Table) (p q sum : ℕ) (weights : List ℕ) : Type 0 where
+  pub sum-is : sum ≡ sumOver (upTo q) (weight t p)
+  pub weights-are : weights ≡ filled 8 0 (map (weight t p) (upTo q))
+
+module _ (t : Table) (p : ℕ) where
+  pub so-far-none : SoFar t p 0 0 (replicate 8 0)
+  unfolding from
+  so-far-none = record { sum-is = refl; weights-are = refl }
+
+  pub so-far-next : {q sum each : ℕ} {weights : List ℕ} → SoFar t p q sum weights → q < 8 → each ≡ weight t p (q + 1)
+      → SoFar t p (q + 1) (sum + each) (set weights q each)
+  so-far-next {q} s h e =
+      record {
+        sum-is = rw (upTo-next, sum-append) (omega (arith, s .sum-is));
+        weights-are = rw (s .weights-are, e) (place-next 0 (weight t p) 8 q h);
+      }
+
+  pub so-far-all : {q request sum : ℕ} {weights : List ℕ} → SoFar t p q sum weights → q ≡ t .cores
+      → (sum ≡ sumOver (upTo (t .cores)) (weight t p) → request ≡ RD t p)
+      → _≡_ {A = CoreCosts} (record { request = request; weight = weights }) (costsOf t p)
+  unfolding costsOf pricesOf
+  so-far-all s e delay = rw (delay (rw e at (s .sum-is)), s .weights-are, e)

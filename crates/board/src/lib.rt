@@ -4,15 +4,16 @@ ghost use Prim.Native.Nat.{_-_, _*_, _/_, _%_, _^_, _≤_};
 ghost use mathlib.Core.List.{map};
 ghost use lib.Count.{ones};
 ghost use Rattle.rules.specs.declared.Table.{Table};
-ghost use Rattle.laws.specs.Idioms.{upTo, filled};
+ghost use Rattle.laws.specs.Idioms.{sumOver, upTo, filled};
 ghost use Rattle.rules.specs.Cores.{share};
 ghost use Rattle.rules.specs.Sound.{Sound};
+ghost use Rattle.rules.specs.Dram.{RD};
 ghost use Rattle.rules.specs.Board.{weight};
-ghost use Rattle.timing.specs.Figures.{FiguresBounded};
+ghost use Rattle.delays.specs.Figures.{FiguresBounded};
 ghost use Rattle.board.specs.Masks.{asBit, mask, onSide, farMasks};
-ghost use Rattle.board.specs.Costs.{costsOf, noCosts, rowPart, Shows};
+ghost use Rattle.board.specs.Costs.{costsOf, noCosts, Shows};
+use delays::Figures;
 use rules::Table;
-use timing::Figures;
 
 // For one core: RD, and what one request of each core costs one of its jobs.
 pub struct CoreCosts {
@@ -98,35 +99,35 @@ fn weigh(near: u8, far: &[u8; 8], p: usize, q: usize, f: Figures) -> u64
     crossings * f.crossing.0 + conflicts * f.conflict.0
 }
 
-// What RD has beside one request of each core: nothing if no core is near.
-fn row_part(near: u8, far: &[u8; 8], p: usize, f: Figures) -> u64
-    requires { ⌜ (1 ≤ p) × (p ≤ 8) ⌝ }
+// RD from what one request of each core costs: the row's part is added, unless no core is near.
+fn request_delay(near: u8, far: &[u8; 8], p: usize, f: Figures, weights: u64) -> u64
+    requires { ⌜ (1 ≤ p) × (p ≤ 8) × (weights ≤ 3 * 10 ^ 8) ⌝ }
     requires { ⌜ FiguresBounded f ⌝ }
-    ensures { λ r. ⌜ r ≤ 7 * 10 ^ 9 ⌝ }
-    ensures { λ r. ⌜ ((t : Table) → p ≤ t .cores → Shows p near (now (far .entry)) f t → r ≡ rowPart t p) ⌝ }
+    ensures { λ r. ⌜ ((t : Table) → p ≤ t .cores → Shows p near (now (far .entry)) f t → weights ≡ sumOver (upTo (t .cores)) (weight t p) → r ≡ RD t p) ⌝ }
 {
     if near == 0 {
-        return 0;
+        return weights;
     }
     let others = count(far[p - 1]);
-    f.run.0 + f.window * f.readwrite.0 * others + f.reopen.0
+    f.run.0 + f.window * f.readwrite.0 * others + f.reopen.0 + weights
 }
 
-// Both costs of core p. RD is what one request of each core costs a job, and the row's part.
+// Both costs of core p.
 fn costs(cores: usize, near: u8, far: &[u8; 8], p: usize, f: Figures) -> CoreCosts
     requires { ⌜ (1 ≤ p) × (p ≤ cores) × (cores ≤ 8) ⌝ }
     requires { ⌜ FiguresBounded f ⌝ }
     ensures { λ r. ⌜ ((t : Table) → t .cores ≡ cores → Shows p near (now (far .entry)) f t → r ≡ costsOf t p) ⌝ }
 {
-    let mut request = row_part(near, far, p, f);
+    let mut sum: u64 = 0;
     let mut weight = [0u64; 8];
     let mut q: usize = 0;
     while q < cores {
         let each = weigh(near, far, p, q + 1, f);
         weight[q] = each;
-        request += each;
+        sum += each;
         q += 1;
     }
+    let request = request_delay(near, far, p, f, sum);
     CoreCosts { request, weight }
 }
 
@@ -140,7 +141,7 @@ pub fn core_costs(t: Table, p: u8) -> CoreCosts
     let own = p as usize;
     let sets = t.sets;
     let row = t.timing;
-    let figures = timing::figures_of(row);
+    let figures = delays::figures_of(row);
     let far = far_sides(cores, &sets);
     let near = side(cores, &sets, own, true);
     costs(cores, near, &far, own, figures)
@@ -154,7 +155,7 @@ pub fn all_costs(t: Table) -> [CoreCosts; 8]
     let cores = t.cores as usize;
     let sets = t.sets;
     let row = t.timing;
-    let figures = timing::figures_of(row);
+    let figures = delays::figures_of(row);
     let far = far_sides(cores, &sets);
     let none = CoreCosts {
         request: 0,

@@ -3,49 +3,82 @@ use rules::Answer;
 use rules::Delay;
 use rules::Refusal;
 use rules::Verdict;
-use words::number;
-use words::word;
+use text::labelled;
+use text::number;
+use text::word;
+
+pub fn end_line(out: &mut [u8], at: usize) -> usize {
+    word(out, at, b"\n")
+}
+
+// `refused N P`
+pub fn put_refusal(out: &mut [u8], refusal: Refusal) -> usize {
+    let end = labelled(out, 0, b"refused ", refusal.number as u64);
+    labelled(out, end, b" ", refusal.place as u64)
+}
 
 // A line of a refusal alone.
 pub fn refused(out: &mut [u8], refusal: Refusal) -> usize {
-    let end = words::refusal(out, 0, refusal);
-    word(out, end, b"\n")
+    let end = put_refusal(out, refusal);
+    end_line(out, end)
 }
 
-fn put_delay(out: &mut [u8], at: usize, by: Delay, request: &[u8], job: &[u8]) -> usize {
-    match by {
-        Delay::Request => word(out, at, request),
-        Delay::Job => word(out, at, job),
+// `accepted LEN same` or `accepted LEN differs`
+pub fn accepted(out: &mut [u8], length: usize, same: bool) -> usize {
+    let end = labelled(out, 0, b"accepted ", length as u64);
+    if same {
+        word(out, end, b" same\n")
+    } else {
+        word(out, end, b" differs\n")
     }
 }
 
-fn put_verdict(out: &mut [u8], at: usize, verdict: Verdict) -> usize {
+fn put_delay(out: &mut [u8], at: usize, by: Delay) -> usize {
+    match by {
+        Delay::Request => word(out, at, b" request "),
+        Delay::Job => word(out, at, b" job "),
+    }
+}
+
+fn put_verdict(out: &mut [u8], verdict: Verdict) -> usize {
     match verdict {
-        Verdict::Misses => word(out, at, b"misses "),
+        Verdict::Misses => word(out, 0, b"misses "),
         Verdict::Holds(bound, by) => {
-            let head = word(out, at, b"holds ");
-            let end = number(out, head, bound.0);
-            put_delay(out, end, by, b" request ", b" job ")
+            let end = labelled(out, 0, b"holds ", bound.0);
+            put_delay(out, end, by)
         }
     }
 }
 
 // `holds BOUND request ROUNDS`, `holds BOUND job ROUNDS` or `misses ROUNDS`
-pub fn put_answer(out: &mut [u8], at: usize, answer: Answer) -> usize {
+pub fn answered(out: &mut [u8], answer: Answer) -> usize {
     let verdict = answer.verdict;
-    let end = put_verdict(out, at, verdict);
-    number(out, end, answer.rounds)
+    let head = put_verdict(out, verdict);
+    let end = number(out, head, answer.rounds);
+    end_line(out, end)
+}
+
+fn letter(by: Delay) -> u8 {
+    match by {
+        Delay::Request => b'r',
+        Delay::Job => b'j',
+    }
 }
 
 fn put_short(out: &mut [u8], at: usize, verdict: Verdict) -> usize {
     match verdict {
         Verdict::Misses => word(out, at, b" -/"),
         Verdict::Holds(bound, by) => {
-            let space = word(out, at, b" ");
-            let end = number(out, space, bound.0);
-            put_delay(out, end, by, b"/r/", b"/j/")
+            let end = labelled(out, at, b" ", bound.0);
+            word(out, end, &[b'/', letter(by), b'/'])
         }
     }
+}
+
+fn put_field(out: &mut [u8], at: usize, answer: Answer) -> usize {
+    let verdict = answer.verdict;
+    let end = put_short(out, at, verdict);
+    number(out, end, answer.rounds)
 }
 
 // 32 fields, each with a space before it: `BOUND/r/ROUNDS`, `BOUND/j/ROUNDS` or `-/ROUNDS`
@@ -54,9 +87,7 @@ pub fn put_fields(out: &mut [u8], at: usize, answers: [Answer; 32]) -> usize {
     let mut i: usize = 0;
     while i < 32 {
         let answer = answers[i];
-        let verdict = answer.verdict;
-        let short = put_short(out, end, verdict);
-        end = number(out, short, answer.rounds);
+        end = put_field(out, end, answer);
         i += 1;
     }
     end
@@ -66,15 +97,24 @@ fn digit(n: u8) -> u8 {
     if n < 10 { 48 + n } else { 87 + n % 16 }
 }
 
+fn put_byte(out: &mut [u8], at: usize, b: u8) -> usize {
+    word(out, at, &[digit(b / 16), digit(b % 16)])
+}
+
 // Bytes as lowercase hexadecimal.
-pub fn put_hex(out: &mut [u8], at: usize, s: &[u8]) -> usize {
+fn put_hex(out: &mut [u8], at: usize, s: &[u8]) -> usize {
     let mut end = at;
     let mut i: usize = 0;
     while i < s.len() {
-        let b = s[i];
-        let high = word(out, end, &[digit(b / 16)]);
-        end = word(out, high, &[digit(b % 16)]);
+        end = put_byte(out, end, s[i]);
         i += 1;
     }
     end
+}
+
+// `part HEX`
+pub fn part(out: &mut [u8], s: &[u8]) -> usize {
+    let head = word(out, 0, b"part ");
+    let end = put_hex(out, head, s);
+    end_line(out, end)
 }

@@ -2,14 +2,19 @@
 mod lines;
 mod raw;
 
-use lines::put_answer;
+use lines::accepted;
+use lines::answered;
+use lines::end_line;
 use lines::put_fields;
-use lines::put_hex;
+use lines::put_refusal;
 use lines::refused;
+use rules::AllJudged;
+use rules::Judged;
+use rules::Refusal;
 use rules::Table;
 use rules::Written;
-use words::number;
-use words::word;
+use text::labelled;
+use text::word;
 ghost use Prim.Native.Nat.{_≤_};
 ghost use lib.ListN.{length};
 
@@ -21,15 +26,14 @@ fn reread(file: &[u8], out: &mut [u8]) -> usize {
         return refused(out, refusal);
     }
     let table = read.table;
+    rewrite(table, file, out)
+}
+
+fn rewrite(table: Table, file: &[u8], out: &mut [u8]) -> usize {
     let mut room = [165u8; 2048];
-    let written = file::write(table, &mut room);
-    let head = word(out, 0, b"accepted ");
-    let end = number(out, head, written.length as u64);
-    if is_same(words::front(&room, written.length), file) {
-        word(out, end, b" same\n")
-    } else {
-        word(out, end, b" differs\n")
-    }
+    let written = writer::write(table, &mut room);
+    let n = written.length;
+    accepted(out, n, is_same(text::front(&room, n), file))
 }
 
 fn is_same(a: &[u8], b: &[u8]) -> bool {
@@ -54,9 +58,7 @@ fn view(payload: &[u8], out: &mut [u8]) -> usize {
     if refusal.number != 0 {
         return refused(out, refusal);
     }
-    let head = word(out, 0, b"part ");
-    let end = put_hex(out, head, file::view(file, k));
-    word(out, end, b"\n")
+    lines::part(out, file::view(file, k))
 }
 
 // The sum of (place from 1) times (byte): the sum of what stands from each place to the end.
@@ -77,55 +79,75 @@ fn weight(s: &[u8]) -> u64
 // A table to the first n bytes of a room, or to all of it where that is shorter.
 fn write_front(table: Table, room: &mut [u8], n: usize) -> Written {
     if n < room.len() {
-        file::write(table, &mut room[..n])
+        writer::write(table, &mut room[..n])
     } else {
-        file::write(table, room)
+        writer::write(table, room)
     }
+}
+
+fn write_raw(payload: &[u8], room: &mut [u8]) -> Written {
+    let all = raw::padded(payload);
+    let n = bytes::le16(&all, 0) as usize;
+    write_front(raw::table(&all, 2), room, n)
 }
 
 fn put_written(out: &mut [u8], written: Written) -> usize {
     let refusal = written.refusal;
     if refusal.number != 0 {
-        return words::refusal(out, 0, refusal);
+        return put_refusal(out, refusal);
     }
-    let head = word(out, 0, b"written ");
-    number(out, head, written.length as u64)
+    labelled(out, 0, b"written ", written.length as u64)
+}
+
+fn put_weight(out: &mut [u8], at: usize, weight: u64) -> usize {
+    let end = labelled(out, at, b" ", weight);
+    end_line(out, end)
 }
 
 // W: a table is written to the first bytes of 2,048.
 fn write(payload: &[u8], out: &mut [u8]) -> usize {
     let mut room = [165u8; 2048];
-    let n = raw::number16(payload, 0) as usize;
-    let table = raw::table(payload, 2);
-    let written = write_front(table, &mut room, n);
+    let written = write_raw(payload, &mut room);
     let end = put_written(out, written);
-    let space = word(out, end, b" ");
-    let last = number(out, space, weight(&room));
-    word(out, last, b"\n")
+    put_weight(out, end, weight(&room))
 }
 
-// J: one task from a start.
-fn judge_one(payload: &[u8], out: &mut [u8]) -> usize {
-    let k = raw::byte(payload, 0);
-    let start = raw::number64(payload, 1);
-    let judged = judge::judge_one(raw::table(payload, 9), k, start);
+fn put_one(out: &mut [u8], judged: Judged) -> usize {
     let refusal = judged.refusal;
     if refusal.number != 0 {
         return refused(out, refusal);
     }
     let answer = judged.answer;
-    let end = put_answer(out, 0, answer);
-    word(out, end, b"\n")
+    answered(out, answer)
+}
+
+// J: one task from a start.
+fn judge_one(payload: &[u8], out: &mut [u8]) -> usize {
+    let all = raw::padded(payload);
+    let start = bytes::le64(&all, 1);
+    put_one(out, judge::judge_one(raw::table(&all, 9), all[0], start))
+}
+
+fn put_outcome(out: &mut [u8], refusal: Refusal) -> usize {
+    if refusal.number != 0 {
+        return put_refusal(out, refusal);
+    }
+    word(out, 0, b"all")
+}
+
+fn put_all(out: &mut [u8], judged: AllJudged) -> usize {
+    let refusal = judged.refusal;
+    let head = put_outcome(out, refusal);
+    let answers = judged.answers;
+    let end = put_fields(out, head, answers);
+    end_line(out, end)
 }
 
 // A: all tasks.
 fn judge_all(payload: &[u8], out: &mut [u8]) -> usize {
-    let judged = judge::judge_all(raw::table(payload, 256), raw::starts(payload));
-    let refusal = judged.refusal;
-    let head = words::refusal_or(out, 0, refusal, b"all");
-    let answers = judged.answers;
-    let end = put_fields(out, head, answers);
-    word(out, end, b"\n")
+    let all = raw::padded(payload);
+    let table = raw::table(&all, 256);
+    put_all(out, judge::judge_all(table, raw::starts(&all)))
 }
 
 fn answer(letter: u8, payload: &[u8], out: &mut [u8]) -> usize {
@@ -146,17 +168,25 @@ fn cut() -> bool {
     false
 }
 
-// Reads n bytes to the front of a buffer, or fills it where that is shorter.
-fn read_front(buf: &mut [u8], n: usize) -> usize {
-    if n < buf.len() {
-        io::read_full(libc::STDIN_FILENO, &mut buf[..n])
-    } else {
-        io::read_full(libc::STDIN_FILENO, buf)
-    }
+fn say_answer(letter: u8, payload: &[u8; 65536], n: usize) {
+    let mut out = [0u8; 4096];
+    let end = answer(letter, text::front(payload, n), &mut out);
+    io::write_all(libc::STDOUT_FILENO, text::front(&out, end));
 }
 
-// Reads and answers one case, and says whether to go on. A payload is shorter than its buffer.
-fn one_case(payload: &mut [u8], out: &mut [u8]) -> bool {
+// A case after its head: the payload's n bytes are read, and the answer is written.
+fn one_answer(letter: u8, n: u16) -> bool {
+    let mut payload = [0u8; 65536];
+    let k = n as usize;
+    if io::read_full(libc::STDIN_FILENO, &mut payload[..k]) < k {
+        return cut();
+    }
+    say_answer(letter, &payload, k);
+    true
+}
+
+// Reads and answers one case, and says whether to go on.
+fn one_case() -> bool {
     let mut head = [0u8; 3];
     let got = io::read_full(libc::STDIN_FILENO, &mut head);
     if got == 0 {
@@ -165,25 +195,13 @@ fn one_case(payload: &mut [u8], out: &mut [u8]) -> bool {
     if got < 3 {
         return cut();
     }
-    let n = raw::number16(&head, 1) as usize;
-    if read_front(payload, n) < n {
-        return cut();
-    }
-    let end = answer(raw::byte(&head, 0), words::front(payload, n), out);
-    words::say(out, end);
-    true
+    one_answer(head[0], bytes::le16(&head, 1))
 }
 
 // A proved loop has to end, and nothing says that a stream does: the turns are counted down from a number that no run uses up.
-fn all_cases(payload: &mut [u8], out: &mut [u8]) {
+fn main() {
     let mut turns = u64::MAX;
-    while turns > 0 && one_case(payload, out) {
+    while turns > 0 && one_case() {
         turns -= 1;
     }
-}
-
-fn main() {
-    let mut payload = [0u8; 65536];
-    let mut out = [0u8; 4096];
-    all_cases(&mut payload, &mut out);
 }

@@ -6,7 +6,6 @@ use Prim.Native.Nat.{ℕ, _≤_}
 use lib.ListN.{replicate}
 use borrow.Author.Tests.{eq-eqb, ne-eqb}
 use Rattle.rules.specs.declared.Read.{Read}
-use Rattle.rules.specs.declared.AllJudged.{AllJudged}
 use Rattle.rules.specs.Chain.{isAccepted}
 use Rattle.rules.specs.Refusals.{checkTable}
 use Rattle.rules.specs.File.{decode, checkWhole}
@@ -27,9 +26,9 @@ module _ (s : List ℕ) where
     unfolding listing refusedLine
     listed-refused h = rw (← read, ne-eqb _ 0 h)
 
-    pub listed-table : (j : AllJudged) → j ≡ judgeAll (r .table) (replicate 32 0) → r .refusal .number ≡ 0 → listing s ≡ tableText (r .table) (j .answers)
+    pub listed-table : r .refusal .number ≡ 0 → listing s ≡ tableText (r .table) (judgeAll (r .table) (replicate 32 0) .answers)
     unfolding listing
-    listed-table j judged h =
+    listed-table h =
         let e : isAccepted (r .refusal) ≡ true = eq-eqb _ 0 h in
         let few : r .table .tasks ≤ 32 = rw read (few-tasks (rw read at e)) in
-        rw (text-whole (r .table) (j .answers) few, judged, ← read, e)
+        rw (text-whole (r .table) _ few, ← read, e)

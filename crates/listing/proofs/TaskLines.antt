@@ -7,23 +7,28 @@ use lib.ListN.{getD}
 use borrow.Author.Tests.{le-leb, lt-leb}
 use Rattle.rules.specs.declared.Table.{Table}
 use Rattle.rules.specs.declared.Answer.{Answer}
+use Rattle.rules.specs.declared.Verdict.{Verdict}
+use Rattle.rules.specs.declared.Verdict.the-variants.{Holds, Misses}
 use Rattle.rules.specs.Judgement.{misses}
 use Rattle.rules.specs.Tasks.{noTask}
-use Rattle.rules.specs.Listing.{line, verdictWords, taskLine, lastLine, tableLines}
+use Rattle.rules.specs.Listing.{line, verdictWords, taskLine, tableLines}
 use Rattle.laws.specs.Idioms.{text, from, upTo, joined}
 use Rattle.laws.specs.Decimal.{decimal}
 use Rattle.laws.proofs.Sums.{upTo-next}
-use Rattle.listing.specs.Lines.{spaced, row, rows, missed, tableText}
+use Rattle.listing.specs.Lines.{rows, last, tableText}
 
--- a line's words: the first, those between, and the last
-line-spaced : (first : List ℕ) (ws : List (List ℕ)) (last : List ℕ) → line (first ∷ (ws ++ (last ∷ []))) ≡ first ++ spaced ws ++ last ++ text "\n"
-line-spaced first [] last = simp append-assoc
-line-spaced first (w ∷ ws) last = rw (line-spaced w ws last) (simp append-assoc)
+-- the end of a task's line: verdict, bound, deciding delay and rounds
+abbrev pub tail : Verdict → ℕ → List ℕ
+tail v rounds = line (verdictWords v ++ decimal rounds ∷ [])
 
-pub task-line : (k core : ℕ) (a : Answer)
-    → taskLine k core a ≡ decimal k ++ text " " ++ decimal core ++ (spaced (verdictWords (a .verdict)) ++ decimal (a .rounds)) ++ text "\n"
+after-core : (core rounds : ℕ) (v : Verdict) → line (decimal core ∷ (verdictWords v ++ decimal rounds ∷ [])) ≡ decimal core ++ text " " ++ tail v rounds
+unfolding verdictWords
+after-core core rounds Misses = refl
+after-core core rounds (Holds bound by) = refl
+
+pub task-line : (k core : ℕ) (a : Answer) → taskLine k core a ≡ decimal k ++ text " " ++ (decimal core ++ text " ") ++ tail (a .verdict) (a .rounds)
 unfolding taskLine
-task-line k core a = rw (line-spaced (decimal core) (verdictWords (a .verdict)) (decimal (a .rounds))) (simp append-assoc)
+task-line k core a = rw (after-core core (a .rounds) (a .verdict)) (simp append-assoc)
 
 joined-snoc : (f : ℕ → List ℕ) (ks : List ℕ) (k : ℕ) → joined (map f (ks ++ (k ∷ []))) ≡ joined (map f ks) ++ f k
 joined-snoc f [] k = rw append-nil
@@ -38,11 +43,11 @@ module _ (t : Table) (answers : List Answer) where
   pub rows-next : (i : ℕ) → rows t answers (i + 1) ≡ rows t answers i ++ taskLine (i + 1) (getD (t .task) i noTask .core) (getD answers i (misses 0))
   unfolding rows
   rows-next i =
-      rw (upTo-next i, joined-snoc (row t answers) (upTo i) (i + 1))
+      rw (upTo-next i, joined-snoc _ (upTo i) (i + 1))
       (ap (λ (p : ℕ). rows t answers i ++ taskLine (i + 1) (getD (t .task) p noTask .core) (getD answers p (misses 0))) (add-sub-cancel i 1))
 
-  pub table-lines : tableLines t answers ≡ text "task core verdict bound by rounds\n" ++ rows t answers (t .tasks) ++ lastLine (missed answers (t .tasks))
-  unfolding tableLines rows missed
+  pub table-lines : tableLines t answers ≡ text "task core verdict bound by rounds\n" ++ rows t answers (t .tasks) ++ last answers (t .tasks)
+  unfolding tableLines rows last
   table-lines = refl
 
   pub text-none : 32 < t .tasks → tableText t answers ≡ []

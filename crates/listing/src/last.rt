@@ -1,19 +1,14 @@
 // The last line: that all hold, or the first task that misses.
-use crate::text::put_number;
-use crate::text::put_word;
 use rules::Answer;
 use rules::Verdict;
+use text::put_phrase;
+use text::put_word;
 ghost use mathlib.Core.Path.{_≡_};
 ghost use Prim.Native.Nat.{_+_, _≤_};
 ghost use lib.ListN.{length};
-ghost use Rattle.rules.specs.Listing.{isMiss, lastLine};
-ghost use Rattle.listing.specs.Put.{Put};
-ghost use Rattle.listing.specs.Lines.{missed, firstOf};
-
-pub enum First {
-    Nothing,
-    At(u64),
-}
+ghost use Rattle.rules.specs.Listing.{isMiss};
+ghost use Rattle.text.specs.Put.{Put};
+ghost use Rattle.listing.specs.Lines.{last, lastFor};
 
 fn is_miss(verdict: Verdict) -> bool
     ensures { λ r. ⌜ r ≡ isMiss verdict ⌝ }
@@ -24,37 +19,30 @@ fn is_miss(verdict: Verdict) -> bool
     }
 }
 
-// The first of the tasks that misses.
-fn first_miss(tasks: usize, answers: [Answer; 32]) -> First
-    requires { ⌜ tasks ≤ 32 ⌝ }
-    ensures { λ r. ⌜ r ≡ firstOf (missed answers tasks) ⌝ }
+// The number of the first task that misses, 0 where none does.
+pub fn first_miss(n: usize, answers: [Answer; 32]) -> u64
+    requires { ⌜ n ≤ 32 ⌝ }
+    ensures { λ r. ⌜ lastFor r ≡ last answers n ⌝ }
 {
     let mut i: usize = 0;
-    while i < tasks {
+    while i < n {
         let answer = answers[i];
-        let k = (i + 1) as u64;
+        i += 1;
         let verdict = answer.verdict;
         if is_miss(verdict) {
-            return First::At(k);
+            return i as u64;
         }
-        i += 1;
     }
-    First::Nothing
+    0
 }
 
-pub fn put_last(buf: &mut [u8], at: usize, tasks: usize, answers: [Answer; 32]) -> usize
-    requires { ⌜ tasks ≤ 32 ⌝ }
+pub fn put_last(buf: &mut [u8], at: usize, first: u64) -> usize
     requires { ⌜ at + 32 ≤ length (now buf) ⌝ }
-    ensures { λ r. ⌜ Put (now (buf .entry)) at (lastLine (missed answers tasks)) r (now (buf .exit)) ⌝ }
+    ensures { λ r. ⌜ Put (now (buf .entry)) at (lastFor first) r (now (buf .exit)) ⌝ }
     ensures { λ r. ⌜ r ≤ at + 32 ⌝ }
 {
-    let first = first_miss(tasks, answers);
-    match first {
-        First::Nothing => put_word(buf, at, b"all hold\n"),
-        First::At(k) => {
-            let words = put_word(buf, at, b"first miss ");
-            let number = put_number(buf, words, k);
-            put_word(buf, number, b"\n")
-        }
+    if first == 0 {
+        return put_word(buf, at, b"all hold\n");
     }
+    put_phrase(buf, at, b"first miss ", first, b'\n')
 }

@@ -1,19 +1,20 @@
 // The listing of document 01: its bytes for a table with its answers, and for a table file, into a lent buffer.
 mod last;
 mod rows;
-pub mod text;
 
+use last::first_miss;
 use last::put_last;
 use rows::put_rows;
 use rules::Answer;
 use rules::Table;
 use text::give;
-use text::put_number;
+use text::put_phrase;
 use text::put_word;
 ghost use Prim.Native.Nat.{_≤_};
-ghost use lib.ListN.{length};
+ghost use lib.ListN.{length, replicate};
+ghost use Rattle.rules.specs.Operations.{judgeAll};
 ghost use Rattle.rules.specs.Listing.{tableLines, listing};
-ghost use Rattle.listing.specs.Put.{Put, Given};
+ghost use Rattle.text.specs.Put.{Put, Given};
 ghost use Rattle.listing.specs.Lines.{tableText, refusedLine};
 
 // The lines of a table, which take at most 34 bytes, 100 a task and 32.
@@ -23,10 +24,10 @@ fn put_table(buf: &mut [u8], t: Table, answers: [Answer; 32]) -> usize
     ensures { λ r. ⌜ Put (now (buf .entry)) 0 (tableLines t answers) r (now (buf .exit)) ⌝ }
     ensures { λ r. ⌜ r ≤ 3266 ⌝ }
 {
-    let tasks = t.tasks as usize;
+    let n = t.tasks as usize;
     let head = put_word(buf, 0, b"task core verdict bound by rounds\n");
     let end = put_rows(buf, head, t, answers);
-    put_last(buf, end, tasks, answers)
+    put_last(buf, end, first_miss(n, answers))
 }
 
 // The lines of a table with its answers, whole, and their length; where they do not fit, nothing, and 0.
@@ -49,10 +50,18 @@ pub fn refused(number: u8, out: &mut [u8]) -> usize
     ensures { λ _. ⌜ length (refusedLine number) ≤ 29 ⌝ }
 {
     let mut made = [0u8; 29];
-    let word = put_word(&mut made, 0, b"refused ");
-    let end = put_number(&mut made, word, number as u64);
-    let n = put_word(&mut made, end, b"\n");
+    let n = put_phrase(&mut made, 0, b"refused ", number as u64, b'\n');
     give(&made[..n], out)
+}
+
+// A table that was read, judged from nothing.
+fn list_table(t: Table, out: &mut [u8]) -> usize
+    ensures { λ r. ⌜ Given (tableText t (judgeAll t (replicate 32 0) .answers)) (now (out .entry)) r (now (out .exit)) ⌝ }
+    ensures { λ _. ⌜ length (tableText t (judgeAll t (replicate 32 0) .answers)) ≤ 3266 ⌝ }
+{
+    let judged = judge::judge_all(t, [0u64; 32]);
+    let answers = judged.answers;
+    lines(t, answers, out)
 }
 
 // The listing of a table file, whole, and its length; where it does not fit, nothing, and 0.
@@ -61,12 +70,9 @@ pub fn list(file: &[u8], out: &mut [u8]) -> usize
     ensures { λ _. ⌜ length (listing (now (file .entry))) ≤ 3266 ⌝ }
 {
     let read = file::read(file);
-    let refusal = read.refusal;
-    if refusal.number != 0 {
-        return refused(refusal.number, out);
+    if read.refusal.number != 0 {
+        return refused(read.refusal.number, out);
     }
     let table = read.table;
-    let judged = judge::judge_all(table, [0u64; 32]);
-    let answers = judged.answers;
-    lines(table, answers, out)
+    list_table(table, out)
 }

@@ -1,46 +1,41 @@
 // The lines of the tasks, one after the other.
-use crate::text::put_number;
-use crate::text::put_word;
 use rules::Answer;
 use rules::Delay;
 use rules::Table;
 use rules::Verdict;
+use text::put_field;
+use text::put_phrase;
 ghost use mathlib.Core.List.{[], _∷_, _++_};
 ghost use Prim.Native.Nat.{_+_, _≤_};
 ghost use lib.ListN.{length};
 ghost use Rattle.laws.specs.Decimal.{decimal};
-ghost use Rattle.rules.specs.Listing.{delayWord, verdictWords, taskLine};
-ghost use Rattle.listing.specs.Put.{Put};
-ghost use Rattle.listing.specs.Lines.{spaced, rows};
+ghost use Rattle.rules.specs.Listing.{line, delayWord, verdictWords, taskLine};
+ghost use Rattle.text.specs.Put.{Put};
+ghost use Rattle.listing.specs.Lines.{rows};
 
-// The deciding delay, with a space before it and after it.
-fn put_delay(buf: &mut [u8], at: usize, by: Delay) -> usize
-    requires { ⌜ at + 9 ≤ length (now buf) ⌝ }
-    ensures { λ r. ⌜ Put (now (buf .entry)) at (spaced (delayWord by ∷ [])) r (now (buf .exit)) ⌝ }
-    ensures { λ r. ⌜ r ≤ at + 9 ⌝ }
+// The end of a line that holds: deciding delay and rounds.
+fn put_delay(buf: &mut [u8], at: usize, by: Delay, rounds: u64) -> usize
+    requires { ⌜ at + 29 ≤ length (now buf) ⌝ }
+    ensures { λ r. ⌜ Put (now (buf .entry)) at (line (delayWord by ∷ decimal rounds ∷ [])) r (now (buf .exit)) ⌝ }
+    ensures { λ r. ⌜ r ≤ at + 29 ⌝ }
 {
     match by {
-        Delay::Request => put_word(buf, at, b" request "),
-        Delay::Job => put_word(buf, at, b" job "),
+        Delay::Request => put_phrase(buf, at, b"request ", rounds, b'\n'),
+        Delay::Job => put_phrase(buf, at, b"job ", rounds, b'\n'),
     }
 }
 
-// Verdict, bound, deciding delay and rounds, with a space before each.
+// The end of a line: verdict, bound, deciding delay and rounds.
 fn put_answer(buf: &mut [u8], at: usize, verdict: Verdict, rounds: u64) -> usize
     requires { ⌜ at + 56 ≤ length (now buf) ⌝ }
-    ensures { λ r. ⌜ Put (now (buf .entry)) at (spaced (verdictWords verdict) ++ decimal rounds) r (now (buf .exit)) ⌝ }
+    ensures { λ r. ⌜ Put (now (buf .entry)) at (line (verdictWords verdict ++ decimal rounds ∷ [])) r (now (buf .exit)) ⌝ }
     ensures { λ r. ⌜ r ≤ at + 56 ⌝ }
 {
     match verdict {
-        Verdict::Misses => {
-            let words = put_word(buf, at, b" misses - - ");
-            put_number(buf, words, rounds)
-        }
+        Verdict::Misses => put_phrase(buf, at, b"misses - - ", rounds, b'\n'),
         Verdict::Holds(bound, by) => {
-            let word = put_word(buf, at, b" holds ");
-            let number = put_number(buf, word, bound.0);
-            let delay = put_delay(buf, number, by);
-            put_number(buf, delay, rounds)
+            let end = put_phrase(buf, at, b"holds ", bound.0, b' ');
+            put_delay(buf, end, by, rounds)
         }
     }
 }
@@ -52,11 +47,9 @@ fn put_row(buf: &mut [u8], at: usize, k: u64, core: u8, answer: Answer) -> usize
     ensures { λ r. ⌜ r ≤ at + 100 ⌝ }
 {
     let verdict = answer.verdict;
-    let number = put_number(buf, at, k);
-    let space = put_word(buf, number, b" ");
-    let place = put_number(buf, space, core as u64);
-    let words = put_answer(buf, place, verdict, answer.rounds);
-    put_word(buf, words, b"\n")
+    let number = put_field(buf, at, k, b' ');
+    let end = put_field(buf, number, core as u64, b' ');
+    put_answer(buf, end, verdict, answer.rounds)
 }
 
 // The lines of all tasks.
@@ -66,15 +59,14 @@ pub fn put_rows(buf: &mut [u8], at: usize, t: Table, answers: [Answer; 32]) -> u
     ensures { λ r. ⌜ Put (now (buf .entry)) at (rows t answers (t .tasks)) r (now (buf .exit)) ⌝ }
     ensures { λ r. ⌜ r ≤ at + 3200 ⌝ }
 {
-    let tasks = t.tasks as usize;
+    let n = t.tasks as usize;
     let mut end = at;
     let mut i: usize = 0;
-    while i < tasks {
-        let task = t.task[i];
+    while i < n {
+        let core = t.task[i].core;
         let answer = answers[i];
-        let k = (i + 1) as u64;
-        end = put_row(buf, end, k, task.core, answer);
         i += 1;
+        end = put_row(buf, end, i as u64, core, answer);
     }
     end
 }

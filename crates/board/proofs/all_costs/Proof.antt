@@ -5,9 +5,9 @@ use Prim.Native.Nat.{_-_, _≤_}
 use borrow.Author.Needs.{needs}
 use native.Mathlib.Omega.{arith}
 use Rattle.rules.specs.declared.Table.{Table}
-use Rattle.laws.specs.Idioms.{from, upTo, filled}
-use Rattle.timing.specs.Figures.{figuresOf}
+use Rattle.delays.specs.Figures.{figuresOf}
 use Rattle.board.specs.Costs.{costsOf, noCosts}
+use Rattle.laws.specs.Idioms.{from, upTo, filled}
 use Rattle.laws.proofs.Places.{place-next}
 use Rattle.board.proofs.Weighed.{small}
 use Rattle.board.proofs.all_costs.Statement.{statement}

@@ -1,23 +1,20 @@
 -- `costs` weighs every core, and sums the weights. Assumes nothing.
 use mathlib.Core.Path.{_≡_}
-use Prim.Native.Nat.{_+_, _-_, _*_, _^_, _≤_}
+use Prim.Native.Nat.{_-_, _*_, _^_, _≤_}
 use borrow.Author.Needs.{needs}
 use native.Mathlib.Omega.{arith}
 use Rattle.rules.specs.declared.Table.{Table}
 use Rattle.board.specs.Costs.{Shows}
-use Rattle.board.proofs.Requests.{SoFar, so-far-none, so-far-next, so-far-all}
+use Rattle.board.proofs.Weighed.{SoFar, so-far-none, so-far-next, so-far-all}
 use Rattle.board.proofs.costs.Statement.{statement}
 use Rattle.board.proofs.costs.Tie as tie
 
 abbrev Inv-loop : tie.InvT-loop
-Inv-loop cores near far p f request₀ weight₀ q₀ request weight q =
-    (q ≤ cores) × (request ≤ 7 * 10 ^ 9 + q * (3 * 10 ^ 7)) × ((t : Table) → t .cores ≡ cores → Shows p near far f t → SoFar t p q request weight)
+Inv-loop cores near far p f sum₀ weight₀ q₀ sum weight q =
+    (q ≤ cores) × (sum ≤ q * (3 * 10 ^ 7)) × ((t : Table) → t .cores ≡ cores → Shows p near far f t → SoFar t p q sum weight)
 
 abbrev μ-loop : tie.MeasureT-loop
-μ-loop cores near far p f request₀ weight₀ q₀ request weight q = cores - q
-
-loop-holds : tie.Need-loop-holds Inv-loop μ-loop
-loop-holds c = (search needs, search needs, λ t e s. so-far-none t _ _ (c .row-part .ensures .1 t (omega arith) s))
+μ-loop cores near far p f sum₀ weight₀ q₀ sum weight q = cores - q
 
 loop-again : tie.Need-loop-again Inv-loop μ-loop
 loop-again c = (
@@ -28,7 +25,7 @@ loop-again c = (
 )
 
 returns : tie.Need-returns Inv-loop μ-loop
-returns c = λ t e s. so-far-all t _ (c .before .loop .inv .2 t e s) (omega arith)
+returns c = λ t e s. so-far-all t _ (c .before .before .loop .inv .2 t e s) (omega arith) (c .request-delay .ensures t (omega arith) s)
 
 pub costs-spec : {M : Type 1} → statement M
 costs-spec =
@@ -36,8 +33,7 @@ costs-spec =
     (tie.spec
     Inv-loop
     μ-loop
-    (λ c κs. search needs)
-    loop-holds
+    (λ c. (search needs, search needs, λ t e s. so-far-none t _))
     (λ c. search needs)
     (λ c κs. search needs)
     (λ c. search needs)
@@ -46,4 +42,5 @@ costs-spec =
     (λ c. search needs)
     (λ c. search needs)
     loop-again
+    (λ c κs. search needs)
     returns)

@@ -5,8 +5,8 @@ use mathlib.Core.List.{map}
 use Prim.Native.Nat.{_-_, _≤_}
 use borrow.Author.Needs.{needs}
 use native.Mathlib.Omega.{arith}
-use Rattle.laws.specs.Idioms.{from, upTo, filled}
 use Rattle.board.specs.Masks.{mask, onSide, farMasks}
+use Rattle.laws.specs.Idioms.{from, upTo, filled}
 use Rattle.laws.proofs.Places.{place-next}
 use Rattle.board.proofs.far_sides.Statement.{statement}
 use Rattle.board.proofs.far_sides.Tie as tie

@@ -23,9 +23,6 @@ loop-holds : tie.Need-loop-holds Inv-loop μ-loop
 unfolding maskFrom
 loop-holds c = (search needs, let e : c .args .cores - c .args .cores ≡ 0 = omega arith in rw (e, maskFrom))
 
-add-bits : tie.Need-add-bits Inv-loop μ-loop
-add-bits c = omega (arith, room (c .before))
-
 loop-again : tie.Need-loop-again Inv-loop μ-loop
 loop-again c =
     let l = c .before .before .loop in
@@ -44,7 +41,7 @@ side-spec =
     loop-holds
     (λ c. omega (arith, room c))
     (λ c κs. search needs)
-    add-bits
+    (λ c. omega (arith, room (c .before)))
     (λ c. search needs)
     (λ c. search needs)
     loop-again

@@ -1,5 +1,4 @@
 -- The first place at fault so far. Assumes nothing.
-use borrow.Author.Needs.{needs}
 use borrow.Author.Tests.{eq-eqb, ne-eqb}
 use Rattle.checks.specs.Faults.{earliest}
 use Rattle.checks.proofs.earlier.Statement.{statement}

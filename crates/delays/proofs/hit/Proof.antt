@@ -9,8 +9,7 @@ returns : tie.Need-returns
 unfolding hit
 returns c =
     let b = c .before .before in
-    let a = b .before .before in
-    (
+    let a = b .before .before in (
       rw (
         c .most2 .ensures,
         c .before .most .ensures,

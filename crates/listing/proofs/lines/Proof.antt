@@ -3,7 +3,7 @@ use mathlib.Core.Path.{sym}
 use native.Mathlib.Omega.{arith}
 use borrow.Author.Needs.{needs}
 use lib.Seq.{length-take-le}
-use Rattle.listing.proofs.Put.{nothing, front-length, front, given-whole}
+use Rattle.text.proofs.Put.{nothing, front-length, front, given-whole}
 use Rattle.listing.proofs.TaskLines.{text-none, text-whole}
 use Rattle.listing.proofs.lines.Statement.{statement}
 use Rattle.listing.proofs.lines.Tie as tie
@@ -12,9 +12,6 @@ returns : tie.Need-returns
 returns c =
     let over = c .if1 .taken in
     (rw text-none (given-whole _ _ (omega arith) (nothing _ 0)), rw text-none (omega arith))
-
-slice-aggregate-give : tie.Need-slice-aggregate-give
-slice-aggregate-give c = sym (length-take-le _ _ (omega arith))
 
 returns-2 : tie.Need-returns-2
 returns-2 c =
@@ -32,7 +29,7 @@ lines-spec =
     (λ c. search needs)
     (λ c κs. search needs)
     (λ c. search needs)
-    slice-aggregate-give
+    (λ c. sym (length-take-le _ _ (omega arith)))
     (λ c κs. search needs)
     (λ c. search needs)
     returns-2)

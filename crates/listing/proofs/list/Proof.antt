@@ -1,4 +1,4 @@
--- `list` meets its contract: what reading and judging give is what the listing is made of. Assumes nothing.
+-- `list` meets its contract: what reading gives is what the listing is made of. Assumes nothing.
 use native.Mathlib.Omega.{arith}
 use borrow.Author.Needs.{needs}
 use Rattle.listing.proofs.Listed.{listed-refused, listed-table}
@@ -9,16 +9,15 @@ returns : tie.Need-returns
 returns c =
     let line = c .before .before in
     let test = line .before .before in
-    let listed = listed-refused _ _ (test .before .before .before .read .ensures) (test .if1 .taken) in
+    let listed = listed-refused _ _ (test .before .before .read .ensures) (test .if1 .taken) in
     (rw listed (line .refused .ensures .0), rw listed (omega (arith, line .refused .ensures .1)))
 
 returns-2 : tie.Need-returns-2
 returns-2 c =
-    let all = c .before .before in
-    let judged = all .before .before .before in
-    let test = judged .before .before in
-    let listed = listed-table _ _ (test .before .before .before .read .ensures) _ (judged .judge-all .ensures) (test .if1 .left) in
-    (rw listed (all .lines .ensures .0), rw listed (all .lines .ensures .1))
+    let lines = c .before .before in
+    let test = lines .before .before .before in
+    let listed = listed-table _ _ (test .before .before .read .ensures) (test .if1 .left) in
+    (rw listed (lines .list-table .ensures .0), rw listed (lines .list-table .ensures .1))
 
 pub list-spec : {M : Type 1} → statement M
 list-spec =
@@ -28,7 +27,6 @@ list-spec =
     (λ c κs. search needs)
     (λ c. search needs)
     returns
-    (λ c κs. search needs)
     (λ c κs. search needs)
     (λ c. search needs)
     returns-2)

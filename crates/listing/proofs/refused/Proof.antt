@@ -3,23 +3,17 @@ use mathlib.Core.Path.{sym}
 use native.Mathlib.Omega.{arith}
 use borrow.Author.Needs.{needs}
 use lib.Seq.{length-take-le}
+use Rattle.text.proofs.Put.{front-length, front}
 use Rattle.listing.specs.Lines.{refusedLine}
-use Rattle.listing.proofs.Put.{_then_, front-length, front}
 use Rattle.listing.proofs.refused.Statement.{statement}
 use Rattle.listing.proofs.refused.Tie as tie
-
-slice-aggregate-give : tie.Need-slice-aggregate-give
-slice-aggregate-give c = sym (length-take-le _ _ (omega arith))
 
 returns : tie.Need-returns
 unfolding refusedLine
 returns c =
     let give = c .before .before in
-    let newline = give .before .before .before .before in
-    let number = newline .before .before .before .before in
-    let word = number .before .before .before in
-    let put = word .put-word .ensures then number .put-number .ensures .0 then newline .put-word2 .ensures in
-    (rw (front put (omega arith)) at (give .give .ensures), omega (arith, front-length put))
+    let put = give .before .before .before .before .put-phrase .ensures in
+    (rw (front (put .0) (omega arith)) at (give .give .ensures), omega (arith, front-length (put .0)))
 
 pub refused-spec : {M : Type 1} → statement M
 refused-spec =
@@ -29,12 +23,7 @@ refused-spec =
     (λ c. search needs)
     (λ c κs. search needs)
     (λ c. search needs)
-    (λ c κs. search needs)
-    (λ c. search needs)
-    (λ c. search needs)
-    (λ c κs. search needs)
-    (λ c. search needs)
-    slice-aggregate-give
+    (λ c. sym (length-take-le _ _ (omega arith)))
     (λ c κs. search needs)
     (λ c. search needs)
     returns)

@@ -10,7 +10,7 @@ abbrev Inv-loop : tie.InvT-loop
 Inv-loop s at into₀ i₀ into i = (i ≤ length into₀) × (length into ≡ length into₀)
 
 abbrev μ-loop : tie.MeasureT-loop
-μ-loop s at into₀ i₀ into i = 15 - i
+μ-loop s at into₀ i₀ into i = length into₀ - i
 
 pub figures-spec : {M : Type 1} → statement M
 figures-spec =

@@ -1,5 +1,4 @@
 -- `put_delay` meets its contract. Assumes nothing.
-use native.Mathlib.Omega.{arith}
 use borrow.Author.Needs.{needs}
 use Rattle.rules.specs.Listing.{delayWord}
 use Rattle.listing.proofs.rows.put_delay.Statement.{statement}
@@ -8,14 +7,14 @@ use Rattle.listing.proofs.rows.put_delay.Tie as tie
 returns : tie.Need-returns
 unfolding delayWord
 returns c =
-    let put = c .before .before .put-word .ensures in
-    (rw (c .before .before .before .before .before .enum-told .given .1) put, omega (arith, put .ends))
+    let put = c .before .before in
+    (rw (put .before .before .before .enum-told .given .1) (put .put-phrase .ensures .0), search needs)
 
 returns-2 : tie.Need-returns-2
 unfolding delayWord
 returns-2 c =
-    let put = c .before .before .put-word2 .ensures in
-    (rw (c .before .before .before .before .before .enum-told2 .given .1) put, omega (arith, put .ends))
+    let put = c .before .before in
+    (rw (put .before .before .before .enum-told2 .given .1) (put .put-phrase2 .ensures .0), search needs)
 
 pub put-delay-spec : {M : Type 1} → statement M
 put-delay-spec =

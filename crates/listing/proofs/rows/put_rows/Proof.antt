@@ -4,27 +4,27 @@ use Prim.Native.Nat.{_+_, _-_, _*_, _≤_}
 use native.Mathlib.Omega.{arith}
 use borrow.Author.Needs.{needs}
 use lib.ListN.{length}
-use Rattle.listing.specs.Put.{Put}
 use Rattle.listing.specs.Lines.{rows}
-use Rattle.listing.proofs.Put.{nothing, _then_}
+use Rattle.text.specs.Put.{Put}
+use Rattle.text.proofs.Put.{nothing, _then_}
 use Rattle.listing.proofs.TaskLines.{rows-none, rows-next}
 use Rattle.listing.proofs.rows.put_rows.Statement.{statement}
 use Rattle.listing.proofs.rows.put_rows.Tie as tie
 
 abbrev Inv-loop : tie.InvT-loop
-Inv-loop buf₀ at t answers tasks end₀ i₀ buf end i =
-    (i ≤ tasks) × (length buf ≡ length buf₀) × (end ≤ at + 100 * i) × Put buf₀ at (rows t answers i) end buf
+Inv-loop buf₀ at t answers n end₀ i₀ buf end i = (i ≤ n) × (length buf ≡ length buf₀) × (end ≤ at + 100 * i) × Put buf₀ at (rows t answers i) end buf
 
 abbrev μ-loop : tie.MeasureT-loop
-μ-loop buf₀ at t answers tasks end₀ i₀ buf end i = tasks - i
+μ-loop buf₀ at t answers n end₀ i₀ buf end i = n - i
 
 loop-holds : tie.Need-loop-holds Inv-loop μ-loop
 loop-holds c = (search needs, search needs, search needs, rw rows-none (nothing _ _))
 
 loop-again : tie.Need-loop-again Inv-loop μ-loop
 loop-again c =
-    let s = c .before .before .before .before .before .before .before in
-    (search needs, search needs, omega arith, rw rows-next (s .loop .inv .3 then c .before .before .put-row .ensures .0))
+    let put = c .before .before in
+    let s = put .before .before .before .before in
+    (search needs, search needs, omega arith, rw rows-next (s .loop .inv .3 then put .put-row .ensures .0))
 
 returns : tie.Need-returns Inv-loop μ-loop
 returns c =
@@ -45,7 +45,6 @@ put-rows-spec =
     (λ c. search needs)
     (λ c. search needs)
     (λ c κs. search needs)
-    (λ c. search needs)
     (λ c. search needs)
     loop-again
     (λ c. search needs)

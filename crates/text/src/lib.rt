@@ -1,0 +1,119 @@
+// Words and numbers as text in a lent buffer: put where there is room for them, given to a buffer whole or not at all, added to a
+// line whole or not at all.
+ghost use mathlib.Core.Path.{_≡_};
+ghost use mathlib.Core.List.{[], _∷_, _++_};
+ghost use Prim.Native.Nat.{_+_, _≤_};
+ghost use lib.ListN.{length, take};
+ghost use Rattle.laws.specs.Decimal.{decimal};
+ghost use Rattle.text.specs.Put.{Put, Spelled, Given};
+ghost use Rattle.text.specs.Line.{line, add};
+
+// ---- one after the other, the place after each being the answer: the caller sees that there is room
+
+pub fn put_word(buf: &mut [u8], at: usize, word: &[u8]) -> usize
+    requires { ⌜ at + length (now word) ≤ length (now buf) ⌝ }
+    ensures { λ r. ⌜ Put (now (buf .entry)) at (now (word .entry)) r (now (buf .exit)) ⌝ }
+{
+    let mut i: usize = 0;
+    while i < word.len() {
+        buf[at + i] = word[i];
+        i += 1;
+    }
+    at + i
+}
+
+// The digits of n at the end of d, the last digit last; the place of the first.
+fn spell(n: u64, d: &mut [u8]) -> usize
+    requires { ⌜ length (now d) ≡ 20 ⌝ }
+    ensures { λ r. ⌜ Spelled n r (now (d .exit)) ⌝ }
+{
+    let mut m = n;
+    let mut i: usize = 19;
+    while 10 <= m {
+        d[i] = 48 + (m % 10) as u8;
+        m = m / 10;
+        i -= 1;
+    }
+    d[i] = 48 + m as u8;
+    i
+}
+
+// A number in decimal digits, of which a u64 has at most 20.
+pub fn put_number(buf: &mut [u8], at: usize, n: u64) -> usize
+    requires { ⌜ at + 20 ≤ length (now buf) ⌝ }
+    ensures { λ r. ⌜ Put (now (buf .entry)) at (decimal n) r (now (buf .exit)) ⌝ }
+    ensures { λ r. ⌜ r ≤ at + 20 ⌝ }
+{
+    let mut d = [0u8; 20];
+    let i = spell(n, &mut d);
+    put_word(buf, at, &d[i..])
+}
+
+// A number and a byte after it.
+pub fn put_field(buf: &mut [u8], at: usize, n: u64, after: u8) -> usize
+    requires { ⌜ at + 21 ≤ length (now buf) ⌝ }
+    ensures { λ r. ⌜ Put (now (buf .entry)) at (decimal n ++ after ∷ []) r (now (buf .exit)) ⌝ }
+    ensures { λ r. ⌜ r ≤ at + 21 ⌝ }
+{
+    let end = put_number(buf, at, n);
+    buf[end] = after;
+    end + 1
+}
+
+// A word, and such a number after it.
+pub fn put_phrase(buf: &mut [u8], at: usize, word: &[u8], n: u64, after: u8) -> usize
+    requires { ⌜ at + length (now word) + 21 ≤ length (now buf) ⌝ }
+    ensures { λ r. ⌜ Put (now (buf .entry)) at (now (word .entry) ++ (decimal n ++ after ∷ [])) r (now (buf .exit)) ⌝ }
+    ensures { λ r. ⌜ r ≤ at + length (now (word .entry)) + 21 ⌝ }
+{
+    let end = put_word(buf, at, word);
+    put_field(buf, end, n, after)
+}
+
+// ---- whole or not at all: none of these asks for room
+
+// A text at the start of a lent buffer, and its length; where it does not fit, nothing, and 0.
+pub fn give(text: &[u8], out: &mut [u8]) -> usize
+    ensures { λ r. ⌜ Given (now (text .entry)) (now (out .entry)) r (now (out .exit)) ⌝ }
+{
+    if text.len() > out.len() {
+        return 0;
+    }
+    put_word(out, 0, text)
+}
+
+// A word after the line that ends at a place, and the line's end then.
+pub fn word(buf: &mut [u8], at: usize, w: &[u8]) -> usize
+    ensures { λ r. ⌜ line (now (buf .exit)) r ≡ add (now (w .entry)) (line (now (buf .entry)) at) ⌝ }
+{
+    if buf.len() < at {
+        return at;
+    }
+    if buf.len() - at < w.len() {
+        return at;
+    }
+    put_word(buf, at, w)
+}
+
+pub fn number(buf: &mut [u8], at: usize, n: u64) -> usize
+    ensures { λ r. ⌜ line (now (buf .exit)) r ≡ add (decimal n) (line (now (buf .entry)) at) ⌝ }
+{
+    let mut digits = [0u8; 20];
+    let k = put_number(&mut digits, 0, n);
+    word(buf, at, &digits[..k])
+}
+
+// A word and a number after it.
+pub fn labelled(buf: &mut [u8], at: usize, w: &[u8], n: u64) -> usize
+    ensures { λ r. ⌜ line (now (buf .exit)) r ≡ add (decimal n) (add (now (w .entry)) (line (now (buf .entry)) at)) ⌝ }
+{
+    let end = word(buf, at, w);
+    number(buf, end, n)
+}
+
+// The first n bytes, or all where there are fewer.
+pub fn front(s: &[u8], n: usize) -> &[u8]
+    ensures { λ r. ⌜ now r ≡ take n (now (s .entry)) ⌝ }
+{
+    if n <= s.len() { &s[..n] } else { s }
+}
