@@ -1,4 +1,4 @@
--- What one byte more, and a word more, adds to a file's two sums; and the sums of bytes after others. Assumes nothing.
+-- What one byte more adds to a file's two sums, and the sums of bytes after others. Assumes nothing.
 use mathlib.Core.Path.{_≡_, sym, ap}
 use mathlib.Core.List.{List, [], _∷_, _++_}
 use Prim.Native.Nat.{ℕ, zero, suc, _+_, _*_, _-_, _<_, _≤_}
@@ -9,9 +9,8 @@ use lib.ListN.{length, take, drop, getD}
 use lib.Seq.{take-suc, take-add}
 use Rattle.rules.specs.File.{sumOf, runningFrom, runningSum}
 use Rattle.bytes.specs.Sums.{sumsOf, joinedSums}
-use Rattle.laws.specs.Idioms.{from, part}
 use Rattle.laws.proofs.Sums.{sum-append}
-use Rattle.laws.proofs.Parts.{part-length, part-eight}
+use Rattle.laws.proofs.Parts.{part-length}
 
 -- running sums from a on: a more after each byte
 running-from : (a : ℕ) (l : List ℕ) → sumOf (runningFrom a l) ≡ length l * a + runningSum l
@@ -27,11 +26,6 @@ running-joined : (l m : List ℕ) → runningSum (l ++ m) ≡ runningSum l + len
 unfolding runningSum
 running-joined l m = omega (arith, running-append 0 l m, running-from (0 + sumOf l) m)
 
-running-eight : (a b c d e f g h : ℕ)
-    → runningSum (a ∷ b ∷ c ∷ d ∷ e ∷ f ∷ g ∷ h ∷ []) + (b + 2 * c + 3 * d + 4 * e + 5 * f + 6 * g + 7 * h) ≡ 8 * (a + b + c + d + e + f + g + h)
-unfolding runningSum
-running-eight a b c d e f g h = omega arith
-
 module _ (s : List ℕ) where
   -- one byte more, with the next place named
   pub sum-next : (i j : ℕ) → j ≡ i + 1 → i < length s → sumOf (take j s) ≡ sumOf (take i s) + getD s i 0
@@ -40,22 +34,6 @@ module _ (s : List ℕ) where
   pub running-next : (i j : ℕ) → j ≡ i + 1 → i < length s → runningSum (take j s) ≡ runningSum (take i s) + sumOf (take j s)
   unfolding runningSum
   running-next i j e h = rw (e, add-one, take-suc s i 0 h, sum-append) (omega (arith, running-joined (take i s) (getD s i 0 ∷ [])))
-
-  -- one word more
-  module _ (n : ℕ) (room : n + 8 ≤ length s) where
-    pub sum-word : sumOf (take (n + 8) s)
-        ≡ sumOf (take n s)
-        + (getD s (n + 0) 0 + getD s (n + 1) 0 + getD s (n + 2) 0 + getD s (n + 3) 0 + getD s (n + 4) 0 + getD s (n + 5) 0 + getD s (n + 6) 0 + getD s (n + 7) 0)
-    unfolding from
-    sum-word = rw (take-add n 8 s, sum-append (λ b. b) (take n s) (part s n 8), part-eight s n room) (omega arith)
-
-    pub running-word : runningSum (take (n + 8) s)
-        + (getD s (n + 1) 0 + 2 * getD s (n + 2) 0 + 3 * getD s (n + 3) 0 + 4 * getD s (n + 4) 0 + 5 * getD s (n + 5) 0 + 6 * getD s (n + 6) 0 + 7 * getD s (n + 7) 0)
-        ≡ runningSum (take n s) + 8 * sumOf (take (n + 8) s)
-    unfolding from
-    running-word =
-        rw (take-add n 8 s, sum-append (λ b. b) (take n s) (part s n 8), running-joined (take n s) (part s n 8), part-eight s n room)
-        (omega (arith, running-eight (getD s (n + 0) 0) (getD s (n + 1) 0) (getD s (n + 2) 0) (getD s (n + 3) 0) (getD s (n + 4) 0) (getD s (n + 5) 0) (getD s (n + 6) 0) (getD s (n + 7) 0)))
 
 -- both have room in 64 bits
 module _ (s : List ℕ) (byte : (i : ℕ) → getD s i 0 < 256) where

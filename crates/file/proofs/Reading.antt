@@ -1,5 +1,5 @@
 -- Reading and viewing, one refusal at a time, and what an accepted file is known to be. Assumes nothing.
-use mathlib.Core.Path.{_≡_, refl, _∙_}
+use mathlib.Core.Path.{_≡_, refl, sym, _∙_}
 use mathlib.Core.Bool.{Bool, true, false, _&&_}
 use mathlib.Core.Logic.{_⊎_, ⊎-elim}
 use mathlib.Core.List.{List, []}
@@ -7,13 +7,16 @@ use Prim.Native.Nat.{ℕ, _<_, _≤_}
 use lib.ListN.{length}
 use borrow.Author.Tests.{le-leb, lt-leb, not-false}
 use Rattle.rules.specs.declared.Table.{Table}
-use Rattle.rules.specs.Chain.{accepted, refused, isAccepted, given}
-use Rattle.rules.specs.Refusals.{countsFault, checkBoard, checkTable, askedFault}
+use Rattle.rules.specs.declared.Read.{Read}
+use Rattle.rules.specs.Chain.{accepted, refused, isAccepted, _orElse_, given}
+use Rattle.rules.specs.Refusals.{countsFault, boardRefusal, checkBoard, checkTasks, checkTable, askedFault}
 use Rattle.rules.specs.File.{coresIn, tasksIn, formIn, fileLength, recordIn, checkWhole, decode}
 use Rattle.rules.specs.Operations.{checkFile, reading, checkView, viewing}
 use Rattle.rules.proofs.Chain.{both-accepted, no-fault}
 use Rattle.laws.specs.Idioms.{Within}
 use Rattle.laws.proofs.Tests.{inside}
+use Rattle.rules.proofs.Accepted.{sound}
+use Rattle.file.specs.Places.{Sized}
 use Rattle.file.specs.Answers.{readNothing}
 use Rattle.whole.proofs.Checks.{whole-long, whole-length}
 
@@ -22,49 +25,51 @@ and-false : (a : Bool) → a && false ≡ false
 and-false true = refl
 and-false false = refl
 
-module _ (t : Table) where
-  counts-refused : countsFault t ≡ true → checkTable t ≡ refused 5 0
-  unfolding checkTable checkBoard
-  counts-refused e = rw e
-
-  many-cores : 8 < t .cores → checkTable t ≡ refused 5 0
-  unfolding countsFault
-  many-cores h = counts-refused (rw (lt-leb (t .cores) 8 h, and-false))
-
-  many-tasks : 32 < t .tasks → checkTable t ≡ refused 5 0
-  unfolding countsFault
-  many-tasks h = counts-refused (rw (lt-leb (t .tasks) 32 h, and-false, and-false))
+-- more cores than a table has places for
+many-cores : (t : Table) → 8 < t .cores → checkTable t ≡ refused 5 0
+unfolding checkTable checkBoard boardRefusal countsFault
+many-cores t h = rw (lt-leb (t .cores) 8 h, and-false)
 
 module _ (s : List ℕ) where
-  pub not-whole : isAccepted (checkWhole s) ≡ false → reading s ≡ readNothing (checkWhole s)
-  unfolding reading checkFile
+  pub not-whole : isAccepted (checkWhole s) ≡ false → checkFile s ≡ checkWhole s
+  unfolding checkFile
   not-whole e = simp e
 
   module _ (came : isAccepted (checkWhole s) ≡ true) where
-    pub read-refused : isAccepted (checkTable (decode s)) ≡ false → reading s ≡ readNothing (checkTable (decode s))
-    unfolding reading checkFile
-    read-refused e = rw (came, e)
+    pub whole-sized : Sized s
+    whole-sized = record { long = whole-long s came; sized = whole-length s came }
 
-    pub read-accepted : isAccepted (checkTable (decode s)) ≡ true → reading s ≡ record { refusal = checkTable (decode s); table = decode s }
-    unfolding reading checkFile
-    read-accepted e = rw (came, e)
+    by-table : checkFile s ≡ checkTable (decode s)
+    unfolding checkFile
+    by-table = rw came
 
-    pub counted-out : 8 < coresIn s ⊎ 32 < tasksIn s → reading s ≡ readNothing (refused 5 0)
+    pub counted-out : 8 < coresIn s → refused 5 0 ≡ checkFile s
     unfolding decode
-    counted-out many =
-        let five : checkTable (decode s) ≡ refused 5 0 = ⊎-elim (many-cores (decode s)) (many-tasks (decode s)) many in
-        read-refused (rw five) ∙ rw five
+    counted-out many = sym (by-table ∙ many-cores (decode s) many)
 
-  pub read-refusal : reading s .refusal ≡ checkFile s
+    pub by-parts : checkFile s ≡ checkBoard (decode s) orElse checkTasks (decode s)
+    unfolding checkTable
+    by-parts = by-table
+
+  pub read-refused : isAccepted (checkFile s) ≡ false → readNothing (checkFile s) ≡ reading s
   unfolding reading
-  read-refusal = refl
+  read-refused e = simp e
 
-  file-whole : isAccepted (checkFile s) ≡ true → isAccepted (checkWhole s) ≡ true
-  unfolding checkFile
-  file-whole e = both-accepted (checkWhole s) (checkTable (decode s)) e .0
+  module _ (e : isAccepted (checkFile s) ≡ true) where
+    pub read-accepted : _≡_ {A = Read} (record { refusal = checkFile s; table = decode s }) (reading s)
+    unfolding reading
+    read-accepted = simp e
 
-  pub file-long : isAccepted (checkFile s) ≡ true → 46 ≤ length s
-  file-long e = whole-long s (file-whole e)
+    file-links : (isAccepted (checkWhole s) ≡ true) × (isAccepted (checkTable (decode s)) ≡ true)
+    unfolding checkFile
+    file-links = both-accepted (checkWhole s) (checkTable (decode s)) e
+
+    pub file-sized : Sized s
+    file-sized = whole-sized (file-links .0)
+
+    pub file-counts : (coresIn s ≤ 8) × (tasksIn s ≤ 32)
+    unfolding decode
+    file-counts = let counts = sound (decode s) (file-links .1) in (counts .cores-in .high, counts .tasks-in .high)
 
   module _ (k : ℕ) where
     pub view-refused : isAccepted (checkFile s) ≡ false → checkView s k ≡ checkFile s
@@ -94,10 +99,10 @@ module _ (s : List ℕ) where
       view-links = both-accepted (checkFile s) (given 12 0 (askedFault (decode s) k)) passed
 
       pub viewed-long : 46 ≤ length s
-      viewed-long = file-long (view-links .0)
+      viewed-long = file-sized (view-links .0) .long
 
       pub viewed-length : length s ≡ fileLength (formIn s) (coresIn s) (tasksIn s)
-      viewed-length = whole-length s (file-whole (view-links .0))
+      viewed-length = file-sized (view-links .0) .sized
 
       pub viewed-task : Within 1 (tasksIn s) k
       unfolding askedFault decode

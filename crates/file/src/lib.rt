@@ -6,9 +6,10 @@ ghost use lib.ListN.{length};
 ghost use lib.Seq.{sets};
 ghost use Rattle.laws.specs.Idioms.{filled};
 ghost use Rattle.rules.specs.Tasks.{noTask};
-ghost use Rattle.rules.specs.File.{recordSize, recordAt, fileLength, recordTask, recordIn, coresIn, tasksIn, formIn, decode};
-ghost use Rattle.rules.specs.Operations.{reading, checkView, viewing};
-ghost use Rattle.file.specs.Places.{figuresIn, tasksTo};
+ghost use Rattle.rules.specs.File.{recordSize, recordAt, recordTask, recordIn, coresIn, tasksIn, formIn, decode};
+ghost use Rattle.rules.specs.Refusals.{checkBoard, checkTasks};
+ghost use Rattle.rules.specs.Operations.{checkFile, reading, checkView, viewing};
+ghost use Rattle.file.specs.Places.{Sized, figuresIn, setsOf, tasksTo};
 ghost use Rattle.file.specs.Answers.{readNothing};
 use rules::Picos;
 use rules::Read;
@@ -61,26 +62,13 @@ fn figures(file: &[u8], at: usize, n: usize, into: &mut [u16])
     }
 }
 
-// A place with no task.
-fn no_task() -> Task
-    ensures { λ r. ⌜ r ≡ noTask ⌝ }
-{
-    Task {
-        core: 0,
-        exec: Picos(0),
-        period: Picos(0),
-        deadline: Picos(0),
-        requests: 0,
-    }
-}
-
 // The first n tasks, and no task in the other places.
 fn tasks(file: &[u8], n: usize) -> [Task; 32]
     requires { ⌜ n ≤ 32 ⌝ }
     requires { ⌜ recordAt (formIn (now file)) (coresIn (now file)) (n + 1) ≤ length (now file) ⌝ }
     ensures { λ r. ⌜ r ≡ filled 32 noTask (tasksTo (now (file .entry)) n) ⌝ }
 {
-    let none = no_task();
+    let none = checks::no_task();
     let mut all = [none; 32];
     let mut i: usize = 0;
     while i < n {
@@ -91,16 +79,21 @@ fn tasks(file: &[u8], n: usize) -> [Task; 32]
     all
 }
 
-// The table of a whole file whose counts have room in it.
-fn table_in(file: &[u8]) -> Table
-    requires { ⌜ coresIn (now file) ≤ 8 ⌝ }
-    requires { ⌜ tasksIn (now file) ≤ 32 ⌝ }
-    requires { ⌜ 46 ≤ length (now file) ⌝ }
-    requires { ⌜ length (now file) ≡ fileLength (formIn (now file)) (coresIn (now file)) (tasksIn (now file)) ⌝ }
-    ensures { λ r. ⌜ r ≡ decode (now (file .entry)) ⌝ }
+fn row_in(file: &[u8]) -> [u16; 15]
+    requires { ⌜ 34 ≤ length (now file) ⌝ }
+    ensures { λ r. ⌜ r ≡ figuresIn (now (file .entry)) 4 15 ⌝ }
 {
     let mut timing = [0u16; 15];
     figures(file, 4, 15, &mut timing[..]);
+    timing
+}
+
+// The sets of a whole file's cores, which have room in a table.
+fn sets_in(file: &[u8]) -> [u16; 8]
+    requires { ⌜ coresIn (now file) ≤ 8 ⌝ }
+    requires { ⌜ Sized (now file) ⌝ }
+    ensures { λ r. ⌜ r ≡ setsOf (now (file .entry)) ⌝ }
+{
     let mut sets = [0u16; 8];
     figures(
         file,
@@ -108,6 +101,17 @@ fn table_in(file: &[u8]) -> Table
         whole::size(file[0]),
         &mut sets[..],
     );
+    sets
+}
+
+// The table of a whole file whose counts have room in it.
+fn table_in(file: &[u8]) -> Table
+    requires { ⌜ (coresIn (now file) ≤ 8) × (tasksIn (now file) ≤ 32) ⌝ }
+    requires { ⌜ Sized (now file) ⌝ }
+    ensures { λ r. ⌜ r ≡ decode (now (file .entry)) ⌝ }
+{
+    let timing = row_in(file);
+    let sets = sets_in(file);
     let task = tasks(file, whole::size(file[2]));
     Table {
         cores: file[0],
@@ -120,11 +124,58 @@ fn table_in(file: &[u8]) -> Table
     }
 }
 
+// ---- the refusals, from the bytes: no table is made
+
+// 5 to 8.
+fn board_in(file: &[u8]) -> Refusal
+    requires { ⌜ coresIn (now file) ≤ 8 ⌝ }
+    requires { ⌜ Sized (now file) ⌝ }
+    ensures { λ r. ⌜ r ≡ checkBoard (decode (now (file .entry))) ⌝ }
+{
+    let sets = sets_in(file);
+    checks::board_refusal(file[0], file[1], file[2], file[3], row_in(file), &sets)
+}
+
+// 9 to 11.
+fn records_in(file: &[u8]) -> Refusal
+    requires { ⌜ Sized (now file) ⌝ }
+    ensures { λ r. ⌜ r ≡ checkTasks (decode (now (file .entry))) ⌝ }
+{
+    let cores = file[0];
+    let n = file[2];
+    let mut seen = checks::no_faults();
+    let mut i: u8 = 0;
+    while i < n {
+        let task = task_in(record_in(file, whole::size(i)));
+        seen = checks::noted(seen, i + 1, cores, task);
+        i += 1;
+    }
+    checks::told(seen)
+}
+
+// 1 to 11. Sets that have no room in a table are refused by their count before they are looked at.
+pub fn check(file: &[u8]) -> Refusal
+    ensures { λ r. ⌜ r ≡ checkFile (now (file .entry)) ⌝ }
+{
+    let came = whole::whole(file);
+    if came.number != 0 {
+        return came;
+    }
+    if 8 < file[0] {
+        return checks::refusal(5, 0);
+    }
+    let board = board_in(file);
+    if board.number != 0 {
+        return board;
+    }
+    records_in(file)
+}
+
 // "A refused read gives an all-zero table"
 fn read_nothing(refusal: Refusal) -> Read
     ensures { λ r. ⌜ r ≡ readNothing refusal ⌝ }
 {
-    let none = no_task();
+    let none = checks::no_task();
     let task = [none; 32];
     let table = Table {
         cores: 0,
@@ -141,28 +192,18 @@ fn read_nothing(refusal: Refusal) -> Read
     }
 }
 
-// Reading: 1 to 4, then 5 to 11. Counts that have no room in a table are refused before the figures are looked at.
+// Reading: 1 to 4, then 5 to 11; then the table.
 pub fn read(file: &[u8]) -> Read
     ensures { λ r. ⌜ r ≡ reading (now (file .entry)) ⌝ }
 {
-    let came = whole::whole(file);
-    if came.number != 0 {
-        return read_nothing(came);
-    }
-    if 8 < file[0] {
-        return read_nothing(whole::no_place(5));
-    }
-    if 32 < file[2] {
-        return read_nothing(whole::no_place(5));
-    }
-    let found = table_in(file);
-    let refusal = checks::check(found);
+    let refusal = check(file);
     if refusal.number != 0 {
         return read_nothing(refusal);
     }
+    let table = table_in(file);
     Read {
         refusal: refusal,
-        table: found,
+        table: table,
     }
 }
 
@@ -172,18 +213,17 @@ pub fn read(file: &[u8]) -> Read
 pub fn view_refusal(file: &[u8], k: u8) -> Refusal
     ensures { λ r. ⌜ r ≡ checkView (now (file .entry)) k ⌝ }
 {
-    let got = read(file);
-    let refusal = got.refusal;
+    let refusal = check(file);
     if refusal.number != 0 {
         return refusal;
     }
     if k < 1 {
-        return whole::no_place(12);
+        return checks::refusal(12, 0);
     }
     if file[2] < k {
-        return whole::no_place(12);
+        return checks::refusal(12, 0);
     }
-    whole::no_place(0)
+    checks::refusal(0, 0)
 }
 
 // "a refused view an empty part"

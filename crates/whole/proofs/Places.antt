@@ -26,8 +26,9 @@ module _ (form cores : ℕ) where
   pub record-within : (i n : ℕ) → i < n → recordAt form cores (i + 1) + recordSize form ≤ recordAt form cores (n + 1)
   record-within i n h = rw (record-place i, record-place n) (omega (arith, mul-le-mul-left (recordSize form) h))
 
-  pub after-sets : (n : ℕ) → setsAt form + 2 * cores ≤ recordAt form cores (n + 1)
-  after-sets n = rw record-place (omega (arith, records-are))
+  pub after-sets : (k : ℕ) → setsAt form + 2 * cores ≤ recordAt form cores k
+  unfolding recordAt recordsAt
+  after-sets k = omega arith
 
   pub length-is : (tasks : ℕ) → fileLength form cores tasks ≡ recordAt form cores (tasks + 1) + 12
   unfolding fileLength

@@ -17,13 +17,9 @@ use Rattle.writer.specs.Answers.{wroteNothing, Wrote}
 use Rattle.laws.proofs.Bytes.{bytes-length}
 use Rattle.laws.proofs.Runs.{sets-after, sets-front}
 
-trailer-length : (s : List ℕ) → length (trailer s) ≡ 12
-unfolding trailer
-trailer-length s = simp (length-append, bytes-length)
-
 pub encode-length : (t : Table) → length (encode t) ≡ length (body t) + 12
-unfolding encode
-encode-length t = length-append (body t) (trailer (body t)) ∙ rw (trailer-length (body t))
+unfolding encode trailer
+encode-length t = simp (length-append, bytes-length)
 
 module _ (t : Table) (out : List ℕ) where
   pub table-refused : isAccepted (checkTable t) ≡ false → Wrote t out (wroteNothing (checkTable t)) out

@@ -36,10 +36,5 @@ loop-again c =
     let l = c .before .before .before .loop in
     (search needs, rw (l .inv .1, c .task-in .ensures, c .before .record-in .ensures) (task-next _ (l .i) (omega arith)))
 
-returns : tie.Need-returns Inv-loop μ-loop
-returns c = let e : c .before .loop .i ≡ c .before .before .before .before .args .n = omega arith in rw e at (c .before .loop .inv .1)
-
 pub tasks-spec : {M : Type 1} → statement M
-tasks-spec =
-    tie.close
-    (tie.spec Inv-loop μ-loop (λ c κs. search needs) loop-holds (λ c κs. omega (arith, ends c)) (λ c κs. rw (c .record-in .ensures) (record-long _ _ (ends (c .before)))) (λ c. search needs) (λ c. search needs) (λ c. search needs) (λ c. search needs) loop-again returns)
+tasks-spec = tie.close (tie.spec Inv-loop μ-loop (λ c κs. search needs) loop-holds (λ c κs. omega (arith, ends c)) (λ c κs. rw (c .record-in .ensures) (record-long _ _ (ends (c .before)))) (λ c. search needs) (λ c. search needs) (λ c. search needs) (λ c. search needs) loop-again (λ c. let e : c .before .loop .i ≡ c .before .before .before .before .args .n = omega arith in rw e at (c .before .loop .inv .1)))

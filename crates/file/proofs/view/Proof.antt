@@ -13,9 +13,6 @@ use Rattle.file.proofs.Reading.{view-nothing, view-record, viewed-lengt
 use Rattle.file.proofs.view.Statement.{statement}
 use Rattle.file.proofs.view.Tie as tie
 
-returns : tie.Need-returns
-returns c = sym (view-nothing _ _ (rw (c .before .before .before .view-refusal .ensures) at (ne-eqb _ _ (c .before .if1 .taken))))
-
 passed : (c : tie.Else1) → let a = c .before .before .before .before .args in isAccepted (checkView (a .file .now) (a .k)) ≡ true
 passed c = rw (c .before .before .view-refusal .ensures) at (eq-eqb _ _ (c .if1 .left))
 
@@ -39,6 +36,4 @@ returns-2 c =
     c .record-in .ensures ∙ rw back (sym (view-record _ _ (passed (z .before))))
 
 pub view-spec : {M : Type 1} → statement M
-view-spec =
-    tie.close
-    (tie.spec (λ c κs. search needs) (λ c. search needs) (λ c. search needs) (λ c. search needs) returns (λ c κs. search needs) (λ c. omega (arith, c .size .ensures, viewed-task _ _ (passed (c .before)))) record-in-requires returns-2)
+view-spec = tie.close (tie.spec (λ c κs. search needs) (λ c. search needs) (λ c. search needs) (λ c. search needs) (λ c. sym (view-nothing _ _ (rw (c .before .before .before .view-refusal .ensures) at (ne-eqb _ _ (c .before .if1 .taken))))) (λ c κs. search needs) (λ c. omega (arith, c .size .ensures, viewed-task _ _ (passed (c .before)))) record-in-requires returns-2)

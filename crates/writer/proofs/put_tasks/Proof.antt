@@ -43,10 +43,5 @@ loop-again c =
     let more = store-next (recordBytes form) (recordSize form) (record-length form) (a .out .now) (recordsAt form (t .cores)) (t .task) (l .done) noTask (omega (arith, all-32 start)) in
     (search needs, search needs, rw (p .put-task .ensures, at, l .inv .2) more)
 
-returns : tie.Need-returns Inv-loop μ-loop
-returns c = let e : c .before .loop .done ≡ c .before .before .before .before .args .t2 .tasks = omega arith in rw e at (c .before .loop .inv .2)
-
 pub put-tasks-spec : {M : Type 1} → statement M
-put-tasks-spec =
-    tie.close
-    (tie.spec Inv-loop μ-loop (λ c κs. search needs) (λ c. search needs) (λ c. search needs) (λ c. search needs) (λ c κs. search needs) put-task-requires (λ c. search needs) (λ c. search needs) loop-again (λ c. search needs) returns)
+put-tasks-spec = tie.close (tie.spec Inv-loop μ-loop (λ c κs. search needs) (λ c. search needs) (λ c. search needs) (λ c. search needs) (λ c κs. search needs) put-task-requires (λ c. search needs) (λ c. search needs) loop-again (λ c. search needs) (λ c. let e : c .before .loop .done ≡ c .before .before .before .before .args .t2 .tasks = omega arith in rw e at (c .before .loop .inv .2)))

@@ -8,12 +8,6 @@ use Rattle.writer.proofs.Stores.{trailer-stores}
 use Rattle.writer.proofs.put_trailer.Statement.{statement}
 use Rattle.writer.proofs.put_trailer.Tie as tie
 
-slice-aggregate-sums : tie.Need-slice-aggregate-sums
-slice-aggregate-sums c = let a = c .before .before .args in sym (length-take-le (a .e) (a .out .now) (omega arith))
-
-sums-requires : tie.Need-sums-requires
-sums-requires c κs = let a = c .before .before .args in omega (arith, length-take-le (a .e) (a .out .now) (omega arith))
-
 returns : tie.Need-returns
 returns c =
     let p3 = c .before .before in
@@ -26,6 +20,4 @@ returns c =
     rw (p3 .put3 .ensures, p2 .put2 .ensures, p1 .put .ensures, s .sums .ensures) (rw long at (trailer-stores front (a .out .now) (a .e)))
 
 pub put-trailer-spec : {M : Type 1} → statement M
-put-trailer-spec =
-    tie.close
-    (tie.spec (λ c. search needs) slice-aggregate-sums sums-requires (λ c κs. search needs) (λ c. search needs) (λ c κs. search needs) (λ c. search needs) (λ c κs. search needs) (λ c. search needs) returns)
+put-trailer-spec = tie.close (tie.spec (λ c. search needs) (λ c. let a = c .before .before .args in sym (length-take-le (a .e) (a .out .now) (omega arith))) (λ c κs. let a = c .before .before .args in omega (arith, length-take-le (a .e) (a .out .now) (omega arith))) (λ c κs. search needs) (λ c. search needs) (λ c κs. search needs) (λ c. search needs) (λ c κs. search needs) (λ c. search needs) returns)

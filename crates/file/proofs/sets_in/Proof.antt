@@ -1,0 +1,32 @@
+-- The sets of a file's cores. Assumes nothing.
+use Prim.Native.Nat.{_+_}
+use mathlib.Core.Path.{_∙_}
+use native.Mathlib.Omega.{arith}
+use borrow.Author.Needs.{needs}
+use Rattle.rules.specs.File.{setsAt, formIn, coresIn, tasksIn}
+use Rattle.laws.proofs.Runs.{sets-filled}
+use Rattle.whole.proofs.Places.{after-sets, length-is}
+use Rattle.file.specs.Places.{figuresIn}
+use Rattle.file.proofs.Steps.{figures-length}
+use Rattle.file.proofs.sets_in.Statement.{statement}
+use Rattle.file.proofs.sets_in.Tie as tie
+
+figures-requires : tie.Need-figures-requires
+figures-requires c κs =
+    let z = c .before in
+    let a = z .before .before in
+    let s = a .before .before .before .args .file .now in
+    omega (arith, z .size .ensures, a .sets-at .ensures, after-sets (formIn s) (coresIn s) (tasksIn s + 1), length-is (formIn s) (coresIn s) (tasksIn s))
+
+returns : tie.Need-returns
+returns c =
+    let z = c .before .before .before in
+    let a = z .before .before in
+    let s = a .before .before .before .args .file .now in
+    rw (c .before .figures .ensures, a .sets-at .ensures .0, z .size .ensures .0)
+    (sets-filled 8 0 (figuresIn s (setsAt (formIn s)) (coresIn s)) (omega (arith, figures-length s (setsAt (formIn s)) (coresIn s))))
+
+pub sets-in-spec : {M : Type 1} → statement M
+sets-in-spec =
+    tie.close
+    (tie.spec (λ c. search needs) (λ c κs. search needs) (λ c. search needs) (λ c κs. search needs) (λ c. search needs) figures-requires returns)
