@@ -10,7 +10,9 @@ use borrow.Author.Tests.{eqb-false, ne-eqb}
 use Rattle.rules.specs.declared.Refusal.{Refusal}
 use Rattle.rules.specs.Chain.{isAccepted}
 use Rattle.rules.specs.Listing.{tableLines, listing}
+use Rattle.rules.specs.File.{formIn, coresIn}
 use Rattle.rules.specs.Operations.{reading, checkView}
+use Rattle.whole.proofs.Places.{sets-limit, after-sets}
 use Rattle.capi.specs.Codes.{codeOf}
 use Rattle.capi.specs.Columns.{JudgedFile}
 use Rattle.capi.specs.Record.{recordPlace}
@@ -36,7 +38,7 @@ pub zero-no-record : (s : List ℕ) (k : ℕ) → recordPlace s k ≡ 0 → isAc
 zero-no-record s k e = go (ℕ-discrete (checkView s k .number) 0)
   where
     go : Dec (checkView s k .number ≡ 0) → isAccepted (checkView s k) ≡ false
-    go (yes passes) = absurd (omega (arith, record-there s k passes))
+    go (yes passes) = absurd (omega (arith, record-there s k passes, after-sets (formIn s) (coresIn s) k, sets-limit (formIn s)))
     go (no refused) = ne-eqb _ _ refused
 
 -- "Returns the length of the listing, which is never 0"

@@ -4,13 +4,13 @@ use rules::Delay;
 use rules::Refusal;
 use rules::Verdict;
 ghost use mathlib.Core.Path.{_≡_};
-ghost use Prim.Native.Nat.{_+_, _*_, _-_, _≤_};
+ghost use Prim.Native.Nat.{_≤_};
 ghost use lib.ListN.{set, take};
 ghost use Rattle.laws.specs.Idioms.{filled};
 ghost use Rattle.rules.specs.Judgement.{boundOf};
 ghost use Rattle.rules.specs.Operations.{checkFile};
 ghost use Rattle.rules.specs.Listing.{listing};
-ghost use Rattle.listing.specs.Put.{Given};
+ghost use Rattle.text.specs.Put.{Given};
 ghost use Rattle.capi.specs.Codes.{codeOf, byNumber};
 ghost use Rattle.capi.specs.Columns.{Columns, JudgedFile};
 ghost use Rattle.capi.specs.Record.{recordPlace};
@@ -140,14 +140,6 @@ pub extern "C" fn ryb_list(file: &[u8], out: &mut [u8]) -> usize
     listing::list(file, out)
 }
 
-// "34 + 2 times cores + 29 times (k − 1)"
-fn record_at(cores: u8, task: u8) -> usize
-    requires { ⌜ 1 ≤ task ⌝ }
-    ensures { λ r. ⌜ r ≡ 34 + 2 * cores + 29 * (task - 1) ⌝ }
-{
-    34 + 2 * (cores as usize) + 29 * ((task as usize) - 1)
-}
-
 // Where a task's record starts in the file, 0 where there is none.
 #[no_mangle]
 pub extern "C" fn ryb_record(file: &[u8], task: u8) -> usize
@@ -157,5 +149,5 @@ pub extern "C" fn ryb_record(file: &[u8], task: u8) -> usize
     if refusal.number != 0 {
         return 0;
     }
-    record_at(file[0], task)
+    whole::record_at(file[3], file[0], whole::size(task) - 1)
 }

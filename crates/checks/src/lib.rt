@@ -5,12 +5,13 @@ ghost use Prim.Native.Nat.{_%_, _≤_};
 ghost use lib.Dec.{eqb};
 ghost use Rattle.laws.specs.Idioms.{entry, within};
 ghost use Rattle.rules.specs.Tasks.{noTask};
-ghost use Rattle.rules.specs.Chain.{refused, first};
+ghost use Rattle.rules.specs.Chain.{first};
 ghost use Rattle.rules.specs.Refusals.{countsFault, figureFault, relationFault, setFault, timeFault};
 ghost use Rattle.rules.specs.Refusals.{checkTiming, boardRefusal, checkBoard, checkTasks, checkTable};
 ghost use Rattle.checks.specs.Faults.{earliest, noFaults, withTask, toldBy};
 use delays::figure;
 use rules::Picos;
+use rules::refused;
 use rules::Refusal;
 use rules::Table;
 use rules::Task;
@@ -19,12 +20,6 @@ use rules::Task;
 const LOWEST: [u64; 15] = [1, 1, 1, 1, 1, 4, 1, 1, 1, 1, 1, 1, 0, 64, 0];
 
 const HIGHEST: [u64; 15] = [5000, 127, 127, 127, 127, 16, 127, 127, 127, 127, 127, 127, 127, 2048, 65535];
-
-pub fn refusal(number: u8, place: u8) -> Refusal
-    ensures { λ r. ⌜ r ≡ refused number place ⌝ }
-{
-    Refusal { number, place }
-}
 
 fn outside(lowest: u64, highest: u64, x: u64) -> bool
     ensures { λ r. ⌜ r ≡ not (within lowest highest x) ⌝ }
@@ -119,11 +114,11 @@ fn check_ranges(row: [u16; 15]) -> Refusal
     let mut i: u8 = 0;
     while i < 15 {
         if figure_fault(row, i + 1) {
-            return refusal(6, i + 1);
+            return refused(6, i + 1);
         }
         i += 1;
     }
-    refusal(0, 0)
+    refused(0, 0)
 }
 
 // 7 "a relation is broken (place: 1 to 5 as listed)"
@@ -133,11 +128,11 @@ fn check_relations(row: [u16; 15]) -> Refusal
     let mut i: u8 = 0;
     while i < 5 {
         if relation_fault(row, i + 1) {
-            return refusal(7, i + 1);
+            return refused(7, i + 1);
         }
         i += 1;
     }
-    refusal(0, 0)
+    refused(0, 0)
 }
 
 fn check_timing(row: [u16; 15]) -> Refusal
@@ -171,11 +166,11 @@ fn check_sets(cores: u8, partitions: u8, sets: &[u16; 8]) -> Refusal
     let mut i: u8 = 0;
     while i < cores {
         if set_fault(partitions, sets[i as usize]) {
-            return refusal(8, i + 1);
+            return refused(8, i + 1);
         }
         i += 1;
     }
-    refusal(0, 0)
+    refused(0, 0)
 }
 
 // 5 to 8: the board, by its counts, its timing figures and its sets.
@@ -190,7 +185,7 @@ pub fn board_refusal(
     ensures { λ r. ⌜ r ≡ boardRefusal cores partitions tasks fourth row (now (sets .entry)) ⌝ }
 {
     if counts_fault(cores, partitions, tasks, fourth) {
-        return refusal(5, 0);
+        return refused(5, 0);
     }
     let timing = check_timing(row);
     if timing.number != 0 {
@@ -262,15 +257,15 @@ pub fn told(seen: Faults) -> Refusal
     ensures { λ r. ⌜ r ≡ toldBy seen ⌝ }
 {
     if seen.core != 0 {
-        return refusal(9, seen.core);
+        return refused(9, seen.core);
     }
     if seen.time != 0 {
-        return refusal(10, seen.time);
+        return refused(10, seen.time);
     }
     if seen.request != 0 {
-        return refusal(11, seen.request);
+        return refused(11, seen.request);
     }
-    refusal(0, 0)
+    refused(0, 0)
 }
 
 pub fn no_task() -> Task

@@ -2,7 +2,7 @@
 use mathlib.Core.Path.{_≡_, sym, _∙_}
 use mathlib.Core.List.{List}
 use Prim.Native.Nat.{ℕ}
-use Rattle.listing.specs.Put.{Given}
+use Rattle.text.specs.Put.{Given}
 use Rattle.capi.proofs.Promises.{judged-once}
 use Rattle.claims.specs.Exact.{Exact, Promises}
 

@@ -17,8 +17,8 @@ use Rattle.rules.specs.File.{checkWhole}
 use Rattle.rules.specs.Operations.{checkFile, reading, checkView, viewing, judgeOne, judgeAll}
 use Rattle.rules.specs.Listing.{listing}
 use Rattle.judge.specs.Carried.{Carried}
-use Rattle.file.specs.Answers.{Wrote}
-use Rattle.listing.specs.Put.{Given}
+use Rattle.writer.specs.Answers.{Wrote}
+use Rattle.text.specs.Put.{Given}
 use Rattle.listing.specs.Lines.{tableText}
 use Rattle.capi.specs.Codes.{codeOf}
 use Rattle.capi.specs.Columns.{JudgedFile}

@@ -162,7 +162,7 @@ pub fn check(file: &[u8]) -> Refusal
         return came;
     }
     if 8 < file[0] {
-        return checks::refusal(5, 0);
+        return rules::refused(5, 0);
     }
     let board = board_in(file);
     if board.number != 0 {
@@ -218,12 +218,12 @@ pub fn view_refusal(file: &[u8], k: u8) -> Refusal
         return refusal;
     }
     if k < 1 {
-        return checks::refusal(12, 0);
+        return rules::refused(12, 0);
     }
     if file[2] < k {
-        return checks::refusal(12, 0);
+        return rules::refused(12, 0);
     }
-    checks::refusal(0, 0)
+    rules::refused(0, 0)
 }
 
 // "a refused view an empty part"

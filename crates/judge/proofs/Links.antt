@@ -10,18 +10,19 @@ use Rattle.rules.specs.declared.Refusal.{Refusal}
 use Rattle.rules.specs.declared.Answer.{Answer}
 use Rattle.rules.specs.declared.Judged.{Judged}
 use Rattle.rules.specs.declared.Rejudged.{Rejudged}
-use Rattle.rules.specs.Tasks.{D, latest, taskOf}
+use Rattle.rules.specs.Tasks.{latest, taskOf}
 use Rattle.rules.specs.Judgement.{misses, judge}
 use Rattle.rules.specs.Sound.{Sound}
-use Rattle.rules.specs.Refusals.{checkTable, askedFault, lateStart, highStart, checkOne, checkAll, checkStart}
+use Rattle.rules.specs.Refusals.{checkJudged, askedFault, lateStart, highStart, checkOne, checkAll, checkStart}
 use Rattle.rules.specs.Order.{worsens}
 use Rattle.rules.specs.Operations.{judgeOne, judgeAll, answersFrom, fresh, olderBound, checkBoth, isCarried, rejudging}
 use Rattle.rules.proofs.Again.{rejudged-verdicts}
 use Rattle.rules.proofs.Chain.{both-accepted, first-refuses, second-decides, no-fault}
 use Rattle.rules.proofs.Accepted.{sound}
+use Rattle.rules.proofs.Starts.{judged-accepted}
 use Rattle.laws.specs.Idioms.{entry, Within}
 use Rattle.laws.proofs.Tests.{inside}
-use Rattle.rounds.specs.declared.Climbed.{Climbed}
+use Rattle.climb.specs.declared.Climbed.{Climbed}
 use Rattle.rounds.specs.Numbered.{climbedFor, notJudged, noneJudged, firstLate, firstHigh, judgedTasks}
 use Rattle.rules.specs.Chain.{accepted, refused, isAccepted, _orElse_, given}
 use Rattle.judge.specs.Carried.{notRejudged, Carried}
@@ -36,11 +37,11 @@ refuses {r} e h = rw e at (ne-eqb (r .number) 0 h)
 -- ---- one task: 5 to 13
 
 module _ (t : Table) (k start : ℕ) where
-  pub start-table : isAccepted (checkTable t) ≡ false → checkTable t ≡ checkStart t k start
+  pub start-table : isAccepted (checkJudged t) ≡ false → checkJudged t ≡ checkStart t k start
   unfolding checkStart
   start-table h = simp h
 
-  module _ (table : isAccepted (checkTable t) ≡ true) where
+  module _ (table : isAccepted (checkJudged t) ≡ true) where
     start-asked : askedFault t k ≡ true → refused 12 0 ≡ checkStart t k start
     unfolding checkStart
     start-asked e = simp (table, e)
@@ -53,39 +54,39 @@ module _ (t : Table) (k start : ℕ) where
     unfolding askedFault
     start-high h = start-asked (rw (le-leb 1 k (omega arith), lt-leb k (t .tasks) h))
 
-    pub start-late : 1 ≤ k → k ≤ t .tasks → D (taskOf t k) < start → refused 13 k ≡ checkStart t k start
-    unfolding checkStart askedFault lateStart latest
-    start-late low high h = simp (table, le-leb 1 k low, le-leb k (t .tasks) high, lt-ltb (D (taskOf t k)) start h)
+    pub start-late : 1 ≤ k → k ≤ t .tasks → latest (taskOf t k) < start → refused 13 k ≡ checkStart t k start
+    unfolding checkStart askedFault lateStart
+    start-late low high h = simp (table, le-leb 1 k low, le-leb k (t .tasks) high, lt-ltb (latest (taskOf t k)) start h)
 
-    pub start-passes : 1 ≤ k → k ≤ t .tasks → start ≤ D (taskOf t k) → accepted ≡ checkStart t k start
-    unfolding checkStart askedFault lateStart latest
-    start-passes low high h = simp (table, le-leb 1 k low, le-leb k (t .tasks) high, le-ltb (D (taskOf t k)) start h)
+    pub start-passes : 1 ≤ k → k ≤ t .tasks → start ≤ latest (taskOf t k) → accepted ≡ checkStart t k start
+    unfolding checkStart askedFault lateStart
+    start-passes low high h = simp (table, le-leb 1 k low, le-leb k (t .tasks) high, le-ltb (latest (taskOf t k)) start h)
 
 -- what passes has an accepted table, a task of it, and a start that is not late
 module _ (t : Table) (k start : ℕ) (passed : isAccepted (checkStart t k start) ≡ true) where
-  start-links : (isAccepted (checkTable t orElse given 12 0 (askedFault t k)) ≡ true) × (isAccepted (given 13 k (lateStart t k start)) ≡ true)
+  start-links : (isAccepted (checkJudged t orElse given 12 0 (askedFault t k)) ≡ true) × (isAccepted (given 13 k (lateStart t k start)) ≡ true)
   unfolding checkStart
-  start-links = both-accepted (checkTable t orElse given 12 0 (askedFault t k)) (given 13 k (lateStart t k start)) passed
+  start-links = both-accepted (checkJudged t orElse given 12 0 (askedFault t k)) (given 13 k (lateStart t k start)) passed
 
-  first-links : (isAccepted (checkTable t) ≡ true) × (isAccepted (given 12 0 (askedFault t k)) ≡ true)
-  first-links = both-accepted (checkTable t) (given 12 0 (askedFault t k)) (start-links .0)
+  first-links : (isAccepted (checkJudged t) ≡ true) × (isAccepted (given 12 0 (askedFault t k)) ≡ true)
+  first-links = both-accepted (checkJudged t) (given 12 0 (askedFault t k)) (start-links .0)
 
   pub start-sound : Sound t
-  start-sound = sound t (first-links .0)
+  start-sound = sound t (judged-accepted t (first-links .0))
 
   pub start-within : Within 1 (t .tasks) k
   unfolding askedFault
   start-within = inside 1 (t .tasks) k (not-false _ (no-fault 11 0 (askedFault t k) (first-links .1)))
 
-  pub start-fits : start ≤ D (taskOf t k)
-  unfolding lateStart latest
-  start-fits = ltb-false (D (taskOf t k)) start (no-fault 12 k (lateStart t k start) (start-links .1))
+  pub start-fits : start ≤ latest (taskOf t k)
+  unfolding lateStart
+  start-fits = ltb-false (latest (taskOf t k)) start (no-fault 12 k (lateStart t k start) (start-links .1))
 
 -- ---- one task: 14, or the answer
 
 module _ (t : Table) (k start : ℕ) where
   one-is : checkOne t k start ≡ checkStart t k start orElse given 14 k (highStart t k start)
-  unfolding checkOne checkStart
+  unfolding checkOne
   one-is = refl
 
   one-refused : (r : Refusal) → isAccepted r ≡ false → checkOne t k start ≡ r → notJudged r ≡ judgeOne t k start
@@ -119,7 +120,7 @@ module _ (t : Table) (k start : ℕ) where
 -- ---- all tasks
 
 module _ (t : Table) (starts : List ℕ) where
-  all-is : checkAll t (entry 0 starts) ≡ checkTable t orElse firstLate t starts orElse firstHigh t starts
+  all-is : checkAll t (entry 0 starts) ≡ checkJudged t orElse firstLate t starts orElse firstHigh t starts
   unfolding checkAll firstLate firstHigh
   all-is = refl
 
@@ -127,10 +128,10 @@ module _ (t : Table) (starts : List ℕ) where
   unfolding judgeAll noneJudged
   all-refused r h e = rw (e, h)
 
-  pub all-table : isAccepted (checkTable t) ≡ false → noneJudged (checkTable t) ≡ judgeAll t starts
-  all-table h = all-refused (checkTable t) h (all-is ∙ simp h)
+  pub all-table : isAccepted (checkJudged t) ≡ false → noneJudged (checkJudged t) ≡ judgeAll t starts
+  all-table h = all-refused (checkJudged t) h (all-is ∙ simp h)
 
-  module _ (table : isAccepted (checkTable t) ≡ true) where
+  module _ (table : isAccepted (checkJudged t) ≡ true) where
     pub all-late : isAccepted (firstLate t starts) ≡ false → noneJudged (firstLate t starts) ≡ judgeAll t starts
     all-late h = all-refused (firstLate t starts) h (all-is ∙ simp (table, h))
 
@@ -149,16 +150,16 @@ module _ (older newer : Table) where
   unfolding rejudging notRejudged isCarried
   again-refused r h e = simp (e, h)
 
-  pub again-older : isAccepted (checkTable older) ≡ false → notRejudged (checkTable older) ≡ rejudging older newer
+  pub again-older : isAccepted (checkJudged older) ≡ false → notRejudged (checkJudged older) ≡ rejudging older newer
   unfolding checkBoth
-  again-older h = again-refused (checkTable older) h (simp h)
+  again-older h = again-refused (checkJudged older) h (simp h)
 
-  module _ (was : isAccepted (checkTable older) ≡ true) where
-    pub again-newer : isAccepted (checkTable newer) ≡ false → notRejudged (checkTable newer) ≡ rejudging older newer
+  module _ (was : isAccepted (checkJudged older) ≡ true) where
+    pub again-newer : isAccepted (checkJudged newer) ≡ false → notRejudged (checkJudged newer) ≡ rejudging older newer
     unfolding checkBoth
-    again-newer h = again-refused (checkTable newer) h (simp was)
+    again-newer h = again-refused (checkJudged newer) h (simp was)
 
-    module _ (is : isAccepted (checkTable newer) ≡ true) {r : Refusal} {answers : List Answer} (from : r ≡ checkTable newer) where
+    module _ (is : isAccepted (checkJudged newer) ≡ true) {r : Refusal} {answers : List Answer} (from : r ≡ checkJudged newer) where
       pub again-carried : worsens older newer ≡ true → answers ≡ answersFrom newer (olderBound older)
           → _≡_ {A = Rejudged} (record { refusal = r; carried = true; answers = answers }) (rejudging older newer)
       unfolding rejudging isCarried checkBoth

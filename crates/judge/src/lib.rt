@@ -5,8 +5,7 @@ ghost use lib.ListN.{length};
 ghost use Rattle.laws.specs.Idioms.{entry};
 ghost use Rattle.rules.specs.Order as Order;
 ghost use Rattle.rules.specs.Order.{worseTask, sameBoard};
-ghost use Rattle.rules.specs.Refusals as Refusals;
-ghost use Rattle.rules.specs.Refusals.{checkTable, checkStart};
+ghost use Rattle.rules.specs.Refusals.{checkTable, checkJudged, checkStart};
 ghost use Rattle.rules.specs.Operations.{judgeOne, judgeAll, answersFrom};
 ghost use Rattle.rounds.specs.Numbered.{notJudged};
 ghost use Rattle.judge.specs.Same.{alikeTo, allWorse};
@@ -15,6 +14,7 @@ ghost use Rattle.judge.specs.Carried.{startOf, olderStarts, AllAllowed, 
 use rules::AllJudged;
 use rules::Answer;
 use rules::Judged;
+use rules::refused;
 use rules::Refusal;
 use rules::Rejudged;
 use rules::Table;
@@ -122,17 +122,18 @@ fn not_judged(refusal: Refusal) -> Judged
     Judged { refusal, answer }
 }
 
-fn refused(number: u8, place: u8) -> Refusal
-    ensures { λ r. ⌜ r ≡ Refusals.refused number place ⌝ }
+// The checks before a judgement.
+fn gate(table: Table) -> Refusal
+    ensures { λ r. ⌜ r ≡ checkJudged table ⌝ }
 {
-    Refusal { number, place }
+    checks::check(table)
 }
 
 // Refusals 5 to 13 of a judgement of one task.
 fn check_start(table: Table, k: u8, start: u64) -> Refusal
     ensures { λ r. ⌜ r ≡ checkStart table k start ⌝ }
 {
-    let refusal = table::check(table);
+    let refusal = gate(table);
     if refusal.number != 0 {
         return refusal;
     }
@@ -144,7 +145,7 @@ fn check_start(table: Table, k: u8, start: u64) -> Refusal
     }
     let i = (k as usize) - 1;
     let task = table.task[i];
-    if task.deadline.0 < start {
+    if climb::latest(task) < start {
         return refused(13, k);
     }
     refused(0, 0)
@@ -169,19 +170,27 @@ pub fn judge_one(table: Table, k: u8, start: u64) -> Judged
     }
 }
 
-// "or of all with 32 starts": refusals 5 to 11, 13 and 14, or the answers.
-pub fn judge_all(table: Table, starts: [u64; 32]) -> AllJudged
+// Of all, for a table that passed the checks before a judgement, as one that was read: 13 and 14, or the answers.
+pub fn judge_checked(table: Table, starts: [u64; 32]) -> AllJudged
+    requires { ⌜ isAccepted (checkJudged table) ≡ true ⌝ }
     ensures { λ r. ⌜ r ≡ judgeAll table starts ⌝ }
 {
-    let refusal = table::check(table);
-    if refusal.number != 0 {
-        return rounds::none_judged(refusal);
-    }
     let late = rounds::late(table, starts);
     if late.number != 0 {
         return rounds::none_judged(late);
     }
     rounds::judge_tasks(table, starts)
+}
+
+// "or of all with 32 starts": refusals 5 to 11, 13 and 14, or the answers.
+pub fn judge_all(table: Table, starts: [u64; 32]) -> AllJudged
+    ensures { λ r. ⌜ r ≡ judgeAll table starts ⌝ }
+{
+    let refusal = gate(table);
+    if refusal.number != 0 {
+        return rounds::none_judged(refusal);
+    }
+    judge_checked(table, starts)
 }
 
 // The answers of an accepted table from starts none of which is refused.
@@ -238,11 +247,11 @@ fn not_rejudged(refusal: Refusal) -> Rejudged
 pub fn judge_carried(older: Table, newer: Table) -> Rejudged
     ensures { λ r. ⌜ Carried older newer r ⌝ }
 {
-    let was = table::check(older);
+    let was = gate(older);
     if was.number != 0 {
         return not_rejudged(was);
     }
-    let is = table::check(newer);
+    let is = gate(newer);
     if is.number != 0 {
         return not_rejudged(is);
     }

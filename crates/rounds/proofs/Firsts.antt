@@ -12,13 +12,13 @@ use Rattle.rules.specs.declared.Refusal.{Refusal}
 use Rattle.rules.specs.declared.Answer.{Answer}
 use Rattle.rules.specs.declared.AllJudged.{AllJudged}
 use Rattle.laws.specs.Idioms.{upTo, entry, filled}
-use Rattle.rules.specs.Tasks.{D, latest, noTask, taskOf}
+use Rattle.rules.specs.Tasks.{latest, noTask, taskOf}
 use Rattle.rules.specs.Judgement.{misses, judge}
 use Rattle.rules.specs.Chain.{accepted, refused, isAccepted, firstFrom, first}
 use Rattle.rules.specs.Refusals.{lateStart, highStart}
 use Rattle.rules.specs.Operations.{answersFrom}
 use Rattle.rules.proofs.First.{first-hit, first-next, first-done, none-first}
-use Rattle.rounds.specs.declared.Climbed.{Climbed}
+use Rattle.climb.specs.declared.Climbed.{Climbed}
 use Rattle.rounds.specs.Numbered.{climbedFor, firstLate, firstHigh, noneJudged, judgedTasks}
 
 -- what is left of looking for the first fault at place i
@@ -45,20 +45,20 @@ abbrev pub lates : Table → List ℕ → ℕ → Bool
 lates t starts k = lateStart t k (entry 0 starts k)
 
 module _ (t : Table) (starts : List ℕ) (i : ℕ) where
-  pub late-true : D (getD (t .task) i noTask) < getD starts i 0 → lates t starts (i + 1) ≡ true
-  unfolding lateStart latest
+  pub late-true : latest (getD (t .task) i noTask) < getD starts i 0 → lates t starts (i + 1) ≡ true
+  unfolding lateStart
   late-true h = let e : i + 1 - 1 ≡ i = omega arith in rw e (lt-ltb _ _ h)
 
-  pub late-false : getD starts i 0 ≤ D (getD (t .task) i noTask) → lates t starts (i + 1) ≡ false
-  unfolding lateStart latest
+  pub late-false : getD starts i 0 ≤ latest (getD (t .task) i noTask) → lates t starts (i + 1) ≡ false
+  unfolding lateStart
   late-false h = let e : i + 1 - 1 ≡ i = omega arith in rw e (le-ltb _ _ h)
 
 -- a start that is not late
-pub on-time : (t : Table) (starts : List ℕ) → isAccepted (firstLate t starts) ≡ true → (i : ℕ) → i < t .tasks → getD starts i 0 ≤ D (taskOf t (i + 1))
-unfolding firstLate lateStart latest
+pub on-time : (t : Table) (starts : List ℕ) → isAccepted (firstLate t starts) ≡ true → (i : ℕ) → i < t .tasks → getD starts i 0 ≤ latest (taskOf t (i + 1))
+unfolding firstLate lateStart
 on-time t starts e i h =
     let less : i + 1 - 1 ≡ i = omega arith in
-    rw less (rw less at (ltb-false (D (taskOf t (i + 1))) (entry 0 starts (i + 1)) (none-first 12 (lates t starts) (t .tasks) e (i + 1) (omega arith) (omega arith))))
+    rw less (rw less at (ltb-false (latest (taskOf t (i + 1))) (entry 0 starts (i + 1)) (none-first 12 (lates t starts) (t .tasks) e (i + 1) (omega arith) (omega arith))))
 
 -- ---- 14
 

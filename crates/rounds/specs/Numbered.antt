@@ -1,5 +1,5 @@
--- The terms of task number k of a table, and what judging it from a start gives. Assumes nothing.
-use Prim.Native.Nat.{ℕ, _*_}
+-- What judging tasks of a table gives. Assumes nothing.
+use Prim.Native.Nat.{ℕ}
 use mathlib.Core.Bool.{cond}
 use mathlib.Core.List.{List, map}
 use Rattle.rules.specs.declared.Task.{Task}
@@ -7,30 +7,16 @@ use Rattle.rules.specs.declared.Table.{Table}
 use Rattle.rules.specs.declared.Refusal.{Refusal}
 use Rattle.rules.specs.declared.Judged.{Judged}
 use Rattle.rules.specs.declared.AllJudged.{AllJudged}
-use Rattle.laws.specs.Idioms.{entry}
-use Rattle.rules.specs.Tasks.{C, T, H, taskOf, coreOf, higher, elsewhere}
-use Rattle.rules.specs.Dram.{RD}
+use Rattle.laws.specs.Idioms.{entry, upTo, filled}
+use Rattle.rules.specs.Tasks.{C, H, latest}
+use Rattle.board.specs.declared.CoreCosts.{CoreCosts}
+use Rattle.board.specs.Costs.{costsOf, noCosts}
 use Rattle.rules.specs.Judgement.{misses, judge}
+use Rattle.rules.specs.Chain.{isAccepted, first}
 use Rattle.rules.specs.Refusals.{lateStart, highStart}
 use Rattle.rules.specs.Operations.{answersFrom, noAnswers}
-use Rattle.rules.specs.Chain.{isAccepted, first}
-use Rattle.rules.specs.Board.{weight}
-use Rattle.rounds.specs.declared.Climbed.{Climbed}
-use Rattle.rounds.specs.Terms.{Terms, termsOf}
-
--- what the requests of one job of j cost a job of core p
-abbrev pub loadOn : Table → ℕ → Task → ℕ
-loadOn t p j = H j * weight t p (j .core)
-
-unfoldable pub termsFor : Table → ℕ → Terms
-termsFor t k =
-    let p = coreOf t k in
-    termsOf (record { exec = C (taskOf t k); requests = H (taskOf t k); delay = RD t p })
-    (map T (higher t k))
-    (map C (higher t k))
-    (map H (higher t k))
-    (map T (elsewhere t p))
-    (map (loadOn t p) (elsewhere t p))
+use Rattle.climb.specs.declared.Climbed.{Climbed}
+use Rattle.climb.specs.declared.Own.{Own}
 
 -- refused by 14, or its answer
 unfoldable pub climbedFor : Table → ℕ → ℕ → Climbed
@@ -38,7 +24,25 @@ climbedFor t k start =
     let answer = judge t k start in
     record { high = highStart t k start; answer = cond (highStart t k start) (misses 0) answer }
 
+-- a task's own figures, with what its core costs, the number of cores, the place of its core's first task and its own
+abbrev pub ownOf : Task → CoreCosts → ℕ → ℕ → ℕ → Own
+ownOf i cost cores first place =
+    record {
+      exec = C i;
+      requests = H i;
+      latest = latest i;
+      delay = cost .request;
+      weight = cost .weight;
+      cores = cores;
+      first = first;
+      place = place;
+    }
+
 -- ---- all tasks
+
+-- what the cores cost each other
+unfoldable pub allCosts : Table → List CoreCosts
+allCosts t = filled 8 noCosts (map (costsOf t) (upTo (t .cores)))
 
 -- 13, and 14, with the first task at fault
 unfoldable pub firstLate : Table → List ℕ → Refusal

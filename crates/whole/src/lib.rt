@@ -4,18 +4,7 @@ ghost use mathlib.Core.Path.{_≡_};
 ghost use Prim.Native.Nat.{_+_, _<_, _≤_};
 ghost use lib.ListN.{length};
 ghost use Rattle.rules.specs.File.{setsAt, recordSize, recordAt, fileLength, checkWhole, checkTrailer};
-ghost use Rattle.rules.specs.Chain.{refused};
 use rules::Refusal;
-
-// A refusal that has no place; number 0 refuses nothing.
-pub fn no_place(number: u8) -> Refusal
-    ensures { λ r. ⌜ r ≡ refused number 0 ⌝ }
-{
-    Refusal {
-        number: number,
-        place: 0,
-    }
-}
 
 // A count as a size.
 pub fn size(x: u8) -> usize
@@ -71,16 +60,16 @@ fn trailer(file: &[u8]) -> Refusal
     let n = file.len();
     let e = n - 12;
     if bytes::le32(file, e) as usize != e {
-        return no_place(3);
+        return rules::refused(3, 0);
     }
     let total = bytes::sums(&file[..e]);
     if bytes::le32(file, n - 8) as u64 != total.sum {
-        return no_place(4);
+        return rules::refused(4, 0);
     }
     if bytes::le32(file, n - 4) as u64 != total.running {
-        return no_place(4);
+        return rules::refused(4, 0);
     }
-    no_place(0)
+    rules::refused(0, 0)
 }
 
 // 1 to 4.
@@ -88,10 +77,10 @@ pub fn whole(file: &[u8]) -> Refusal
     ensures { λ r. ⌜ r ≡ checkWhole (now (file .entry)) ⌝ }
 {
     if file.len() < 46 {
-        return no_place(1);
+        return rules::refused(1, 0);
     }
     if file.len() != file_length(file[3], file[0], file[2]) {
-        return no_place(2);
+        return rules::refused(2, 0);
     }
     trailer(file)
 }

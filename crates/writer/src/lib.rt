@@ -123,12 +123,12 @@ pub fn write(t: Table, out: &mut [u8]) -> Written
     }
     let n = whole::file_length(t.fourth, t.cores, t.tasks);
     if out.len() < n {
-        return wrote_nothing(whole::no_place(15));
+        return wrote_nothing(rules::refused(15, 0));
     }
     put_body(out, t);
     put_trailer(out, n - 12);
     Written {
-        refusal: whole::no_place(0),
+        refusal: rules::refused(0, 0),
         length: n,
     }
 }

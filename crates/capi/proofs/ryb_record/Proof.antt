@@ -1,10 +1,11 @@
 -- `ryb_record` meets its contract. Assumes nothing.
 use mathlib.Core.Path.{_≡_, _∙_, sym}
+use Prim.Native.Nat.{_+_, _-_}
 use native.Mathlib.Omega.{arith}
 use borrow.Author.Needs.{needs}
 use borrow.Author.Tests.{eq-eqb}
 use Rattle.rules.specs.Operations.{checkView}
-use Rattle.file.proofs.Reading.{viewed-length, viewed-task}
+use Rattle.file.proofs.Reading.{viewed-long, viewed-task}
 use Rattle.capi.proofs.Record.{no-record, record-there}
 use Rattle.capi.proofs.ryb_record.Statement.{statement}
 use Rattle.capi.proofs.ryb_record.Tie as tie
@@ -15,14 +16,13 @@ passes c = rw (c .before .before .view-refusal .ensures) at (c .if1 .left)
 returns : tie.Need-returns
 returns c = sym (no-record _ _ (rw (c .before .before .view-refusal .ensures) at (c .if1 .taken)))
 
-there : tie.Need-shared-slice-read-record-at
-there c = omega (arith, viewed-length _ _ (eq-eqb _ _ (passes (c .before))))
-
-asks : tie.Need-record-at-requires
-asks c κs = viewed-task _ _ (eq-eqb _ _ (passes (c .before))) .low
-
 returns-2 : tie.Need-returns-2
-returns-2 c = c .record-at .ensures ∙ sym (record-there _ _ (passes (c .before .before)))
+returns-2 c =
+    let z = c .before in
+    let e = z .before .before .before in
+    let asked = viewed-task _ _ (eq-eqb _ _ (passes e)) in
+    let back : z .size .result - 1 + 1 ≡ e .before .before .before .before .args .task = omega arith in
+    c .record-at .ensures .0 ∙ rw back (sym (record-there _ _ (passes e)))
 
 pub ryb-record-spec : {M : Type 1} → statement M
-ryb-record-spec = tie.close (tie.spec (λ c κs. search needs) returns there asks returns-2)
+ryb-record-spec = tie.close (tie.spec (λ c κs. search needs) returns (λ c. omega (arith, viewed-long _ _ (eq-eqb _ _ (passes (c .before))))) (λ c. omega (arith, viewed-long _ _ (eq-eqb _ _ (passes (c .before .before))))) (λ c κs. search needs) (λ c. omega (arith, c .size .ensures, viewed-task _ _ (eq-eqb _ _ (passes (c .before .before .before))))) (λ c κs. search needs) returns-2)

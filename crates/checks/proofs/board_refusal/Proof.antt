@@ -7,7 +7,7 @@ use Rattle.checks.proofs.board_refusal.Statement.{statement}
 use Rattle.checks.proofs.board_refusal.Tie as tie
 
 returns : tie.Need-returns
-returns c = c .refusal .ensures ∙ counts-refuse _ _ _ _ _ _ (sym (c .before .before .counts-fault .ensures) ∙ c .before .if1 .taken)
+returns c = c .refused .ensures ∙ counts-refuse _ _ _ _ _ _ (sym (c .before .before .counts-fault .ensures) ∙ c .before .if1 .taken)
 
 returns-2 : tie.Need-returns-2
 returns-2 c =

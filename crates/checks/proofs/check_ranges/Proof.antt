@@ -15,13 +15,13 @@ abbrev μ-loop : tie.MeasureT-loop
 μ-loop row i₀ i = 15 - i
 
 returns : tie.Need-returns Inv-loop μ-loop
-returns c = c .refusal .ensures ∙ left-hit _ _ _ _ (c .before .before .before .before .loop .inv) (omega arith) (sym (c .before .before .figure-fault .ensures) ∙ c .before .if1 .taken)
+returns c = c .refused .ensures ∙ left-hit _ _ _ _ (c .before .before .before .before .loop .inv) (omega arith) (sym (c .before .before .figure-fault .ensures) ∙ c .before .if1 .taken)
 
 loop-again : tie.Need-loop-again Inv-loop μ-loop
 loop-again c = left-next _ _ _ _ (c .before .before .before .loop .inv) (omega arith) (sym (c .before .figure-fault .ensures) ∙ c .if1 .left)
 
 returns-2 : tie.Need-returns-2 Inv-loop μ-loop
-returns-2 c = c .refusal2 .ensures ∙ left-none _ _ _ _ (c .before .before .loop .inv) (omega arith)
+returns-2 c = c .refused2 .ensures ∙ left-none _ _ _ _ (c .before .before .loop .inv) (omega arith)
 
 pub check-ranges-spec : {M : Type 1} → statement M
 check-ranges-spec =

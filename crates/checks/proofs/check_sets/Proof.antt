@@ -25,7 +25,7 @@ at partitions sets i e = let same : i + 1 - 1 ≡ i = omega arith in rw same e
 returns : tie.Need-returns Inv-loop μ-loop
 returns c =
     let l = c .before .before .before .before .before in
-    c .refusal .ensures ∙ left-hit _ _ _ _ (l .loop .inv) (omega arith) (at (l .before .args .partitions) (l .before .args .sets .now) (l .loop .i) (sym (c .before .before .set-fault .ensures) ∙ c .before .if1 .taken))
+    c .refused .ensures ∙ left-hit _ _ _ _ (l .loop .inv) (omega arith) (at (l .before .args .partitions) (l .before .args .sets .now) (l .loop .i) (sym (c .before .before .set-fault .ensures) ∙ c .before .if1 .taken))
 
 loop-again : tie.Need-loop-again Inv-loop μ-loop
 loop-again c =
@@ -33,7 +33,7 @@ loop-again c =
     left-next _ _ _ _ (l .loop .inv) (omega arith) (at (l .before .args .partitions) (l .before .args .sets .now) (l .loop .i) (sym (c .before .set-fault .ensures) ∙ c .if1 .left))
 
 returns-2 : tie.Need-returns-2 Inv-loop μ-loop
-returns-2 c = c .refusal2 .ensures ∙ left-none _ _ _ _ (c .before .before .loop .inv) (omega arith)
+returns-2 c = c .refused2 .ensures ∙ left-none _ _ _ _ (c .before .before .loop .inv) (omega arith)
 
 pub check-sets-spec : {M : Type 1} → statement M
 check-sets-spec =

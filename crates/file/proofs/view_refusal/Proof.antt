@@ -20,15 +20,15 @@ returns c =
     check .ensures ∙ sym (view-refused _ _ (rw (check .ensures) at (ne-eqb _ _ (c .if1 .taken))))
 
 returns-3 : tie.Need-returns-3
-returns-3 c = c .refusal2 .ensures ∙ sym (asked-out _ _ (passed (c .before .before .before .before)) (inr (c .before .if3 .taken)))
+returns-3 c = c .refused2 .ensures ∙ sym (asked-out _ _ (passed (c .before .before .before .before)) (inr (c .before .if3 .taken)))
 
 returns-4 : tie.Need-returns-4
 returns-4 c =
-    c .refusal3 .ensures ∙ sym (asked-in _ _ (passed (c .before .before .before .before)) (c .before .before .before .if2 .left) (c .before .if3 .left))
+    c .refused3 .ensures ∙ sym (asked-in _ _ (passed (c .before .before .before .before)) (c .before .before .before .if2 .left) (c .before .if3 .left))
 
 pub view-refusal-spec : {M : Type 1} → statement M
 view-refusal-spec =
     tie.close
     (tie.spec (λ c κs. search needs) returns (λ c κs. search needs)
-    (λ c. c .refusal .ensures ∙ sym (asked-out _ _ (passed (c .before .before)) (inl (c .before .if2 .taken))))
+    (λ c. c .refused .ensures ∙ sym (asked-out _ _ (passed (c .before .before)) (inl (c .before .if2 .taken))))
     (λ c. omega (arith, file-sized _ (passed (c .before .before)) .long)) (λ c κs. search needs) returns-3 (λ c κs. search needs) returns-4)

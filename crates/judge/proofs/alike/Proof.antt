@@ -1,7 +1,6 @@
 -- Two lists compared, place by place. Assumes nothing.
 use borrow.Author.Needs.{needs}
 use Prim.Native.Nat.{_≤_, _-_}
-use native.Mathlib.Omega.{arith}
 use Rattle.judge.specs.Same.{alikeTo}
 use Rattle.laws.proofs.Every.{Rest, rest-all, rest-fails, rest-next, rest-passes, rest-done}
 use Rattle.judge.proofs.Compared.{equals, equal-here, unequal-here, equal-beyond}

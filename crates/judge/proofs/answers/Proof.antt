@@ -1,5 +1,4 @@
 -- The answers where no start is refused. Assumes nothing.
-use borrow.Author.Needs.{needs}
 use mathlib.Core.Path.{_∙_, ap}
 use Rattle.rules.specs.declared.AllJudged.{AllJudged}
 use Rattle.rules.proofs.Accepted.{sound}

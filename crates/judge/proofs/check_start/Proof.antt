@@ -4,20 +4,21 @@ use mathlib.Core.Path.{_≡_, _∙_}
 use mathlib.Core.Bool.{true}
 use native.Mathlib.Omega.{arith}
 use Rattle.rules.specs.Chain.{isAccepted}
-use Rattle.rules.specs.Refusals.{checkTable}
+use Rattle.rules.specs.Refusals.{checkJudged}
 use Rattle.rules.proofs.Accepted.{sound}
+use Rattle.rules.proofs.Starts.{judged-accepted}
 use Rattle.judge.proofs.Links.{passes, refuses, start-table, start-low, start-high, start-late, start-passes}
 use Rattle.judge.proofs.check_start.Statement.{statement}
 use Rattle.judge.proofs.check_start.Tie as tie
 
 -- past the table's own refusals
-table-passes : (c : tie.Else1) → isAccepted (checkTable (c .before .before .before .args .t1)) ≡ true
-table-passes c = passes (c .before .before .check .ensures) (c .if1 .left)
+table-passes : (c : tie.Else1) → isAccepted (checkJudged (c .before .before .before .args .t1)) ≡ true
+table-passes c = passes (c .before .before .gate .ensures) (c .if1 .left)
 
 returns : tie.Need-returns
 returns c =
     let a = c .before .before .before .args in
-    let e = c .before .before .check .ensures in
+    let e = c .before .before .gate .ensures in
     e ∙ start-table (a .t1) (a .k) (a .start) (refuses e (c .if1 .taken))
 
 returns-2 : tie.Need-returns-2
@@ -27,17 +28,17 @@ returns-3 : tie.Need-returns-3
 returns-3 c = let a = c .before .before .before .before .before .before .args in c .refused2 .ensures ∙ start-high (a .t1) (a .k) (a .start) (table-passes (c .before .before .before)) (search needs)
 
 element-copy-out-task : tie.Need-element-copy-out-task
-element-copy-out-task c = omega (arith, sound (c .before .before .before .before .before .args .t1) (table-passes (c .before .before)) .tasks-in .high)
+element-copy-out-task c = omega (arith, sound (c .before .before .before .before .before .args .t1) (judged-accepted _ (table-passes (c .before .before))) .tasks-in .high)
 
 returns-4 : tie.Need-returns-4
 returns-4 c =
     let a = c .before .before .before .before .before .before .before .before .before .args in
-    c .refused3 .ensures ∙ start-late (a .t1) (a .k) (a .start) (table-passes (c .before .before .before .before .before .before)) (search needs) (search needs) (search needs)
+    c .refused3 .ensures ∙ start-late (a .t1) (a .k) (a .start) (table-passes (c .before .before .before .before .before .before)) (search needs) (search needs) (omega (arith, c .before .before .latest .ensures))
 
 returns-5 : tie.Need-returns-5
 returns-5 c =
     let a = c .before .before .before .before .before .before .before .before .before .args in
-    c .refused4 .ensures ∙ start-passes (a .t1) (a .k) (a .start) (table-passes (c .before .before .before .before .before .before)) (search needs) (search needs) (search needs)
+    c .refused4 .ensures ∙ start-passes (a .t1) (a .k) (a .start) (table-passes (c .before .before .before .before .before .before)) (search needs) (search needs) (omega (arith, c .before .before .latest .ensures))
 
 pub check-start-spec : {M : Type 1} → statement M
 check-start-spec =
@@ -52,6 +53,7 @@ check-start-spec =
     (λ c. search needs)
     (λ c. search needs)
     element-copy-out-task
+    (λ c κs. search needs)
     (λ c κs. search needs)
     returns-4
     (λ c κs. search needs)

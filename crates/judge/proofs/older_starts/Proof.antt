@@ -1,14 +1,13 @@
 -- The starts that the older answers give, place by place. Assumes nothing.
 use borrow.Author.Needs.{needs}
 use mathlib.Core.Path.{_≡_, _∙_, ap}
-use mathlib.Core.List.{map}
 use Prim.Native.Nat.{_≤_, _-_}
 use native.Mathlib.Omega.{arith}
 use lib.ListN.{length}
 use lib.Seq.{take-all}
 use Rattle.rules.specs.Judgement.{misses}
 use Rattle.rules.specs.Operations.{answersFrom, fresh}
-use Rattle.rounds.proofs.Column.{Column, column-none, column-next}
+use Rattle.judge.proofs.Column.{Column, column-none, column-next}
 use Rattle.judge.specs.Carried.{startOf, olderStarts}
 use Rattle.judge.proofs.Allowed.{all-fresh, answers-long, same-answers, fresh-starts}
 use Rattle.judge.proofs.older_starts.Statement.{statement}

@@ -1,39 +1,44 @@
--- One task, on the columns of its table. Assumes nothing.
+-- One task. Assumes nothing.
 use borrow.Author.Needs.{needs}
-use mathlib.Core.Path.{_≡_, _∙_, ap}
-use Prim.Native.Nat.{ℕ, _+_, _-_, _≤_}
+use mathlib.Core.Path.{_≡_, refl, _∙_, ap}
+use Prim.Native.Nat.{ℕ, _+_, _-_}
 use native.Mathlib.Omega.{arith}
-use lib.ListN.{length-take}
-use Rattle.rules.specs.Tasks.{D, taskOf}
+use lib.ListN.{getD}
+use Rattle.rules.specs.Tasks.{noTask}
+use Rattle.laws.specs.Idioms.{Within}
+use Rattle.groups.proofs.Places.{task-here}
 use Rattle.rounds.specs.Numbered.{climbedFor}
-use Rattle.rounds.proofs.Filled.{core-within, at-requires, at-gives}
+use Rattle.rounds.proofs.Here.{first-low, here-ready, here-gives}
 use Rattle.rounds.proofs.judge_task.Statement.{statement}
 use Rattle.rounds.proofs.judge_task.Tie as tie
-
-core-costs-requires : tie.Need-core-costs-requires
-core-costs-requires c κs =
-    let s = c .before .before .before .before .before .before .before .before .before .before .before .before in
-    let core = core-within (s .args .table) (s .pre .0) (c .before .before .before .before .before .before .columns .ensures) (s .args .k - 1) (omega arith) in
-    (s .pre .0, (core .low, core .high))
 
 -- the place of a task, counted from 0, and one more
 numbered : (c : tie.Start) → c .args .k - 1 + 1 ≡ c .args .k
 numbered c = omega arith
 
-fits : (c : tie.Start) → c .args .start ≤ D (taskOf (c .args .table) (c .args .k - 1 + 1))
-fits c = rw (numbered c) (c .pre .1 .1)
+core-in : (c : tie.After-task) → Within 1 (c .before .args .t1 .cores) (getD (c .before .args .t1 .task) (c .before .args .k - 1) noTask .core)
+core-in c = task-here (c .before .args .t1) (c .before .pre .0) (c .before .args .k - 1) (omega arith) .core-in
 
-judge-at-requires : tie.Need-judge-at-requires
-judge-at-requires c κs =
-    let s = c .before .before .before .before .before .before .before .before .before .before .before .before .before .before .before .before .before .before .before .before in
-    at-requires (s .args .table) (s .pre .0) (c .before .before .before .before .before .before .before .before .before .before .before .before .before .before .columns .ensures) (s .args .k - 1) (omega arith) (c .before .before .before .before .before .before .before .core-costs .ensures) (s .args .start) (fits s)
+place-requires : tie.Need-place-requires
+place-requires c κs =
+    let s = c .before .before .before .before .before .before .before in
+    (s .pre .0, (omega arith, first-low (s .args .t1) (s .pre .0) (s .args .k - 1) (omega arith) (c .grouped .ensures)))
+
+settle-requires : tie.Need-settle-requires
+settle-requires c κs =
+    let s = c .before .before .before .before .before .before .before .before .before .before .before .before .before .before .before .before in (
+      c .before .before .before .before .before .inverses .ensures,
+      rw (c .before .before .before .before .before .before .before .own-of .ensures)
+          (here-ready (s .args .t1) (s .pre .0) (s .args .k - 1) (omega arith) (c .before .before .before .before .before .before .before .before .before .grouped .ensures) (c .before .before .before .before .before .before .before .before .place .ensures) (c .before .before .before .before .before .before .before .before .before .before .before .before .before .before .core-costs .ensures) (s .args .start) (rw (numbered s) (s .pre .1 .1))),
+    )
 
 returns : tie.Need-returns
 returns c =
-    let s = c .before .before .before .before .before .before .before .before .before .before .before .before .before .before .before .before .before .before .before .before .before in
-    c .judge-at .ensures
-    ∙ at-gives (s .args .table) (s .pre .0) (c .before .before .before .before .before .before .before .before .before .before .before .before .before .before .before .columns .ensures) (s .args .k - 1) (omega arith) (c .before .before .before .before .before .before .before .before .core-costs .ensures) (s .args .start) (fits s)
-    ∙ ap (λ (k : ℕ). climbedFor (s .args .table) k (s .args .start)) (numbered s)
+    let s = c .before .before .before .before .before .before .before .before .before .before .before .before .before .before .before .before .before in
+    c .settle .ensures
+    ∙ rw (c .before .before .before .before .before .before .before .before .own-of .ensures)
+    (here-gives (s .args .t1) (s .pre .0) (s .args .k - 1) (omega arith) (c .before .before .before .before .before .before .before .before .before .before .grouped .ensures) (c .before .before .before .before .before .before .before .before .before .place .ensures) (c .before .before .before .before .before .before .before .before .before .before .before .before .before .before .before .core-costs .ensures) (s .args .start))
+    ∙ ap (λ (k : ℕ). climbedFor (s .args .t1) k (s .args .start)) (numbered s)
 
 pub judge-task-spec : {M : Type 1} → statement M
 judge-task-spec =
@@ -42,23 +47,15 @@ judge-task-spec =
     (λ c. search needs)
     (λ c. search needs)
     (λ c. search needs)
-    (λ c. search needs)
-    (λ c. search needs)
+    (λ c κs. let core = core-in c in (c .before .pre .0, (core .low, core .high)))
+    (λ c κs. (c .before .before .before .before .before .before .pre .0, (refl, (refl, refl, refl))))
+    (λ c. let core = core-in (c .before .before .before .before .before .before) in omega (arith, core .low, core .high, c .before .before .before .before .before .before .before .pre .0 .cores-in .high))
+    (λ c. let core = core-in (c .before .before .before .before .before .before) in omega (arith, core .low, core .high, c .before .before .before .before .before .before .before .pre .0 .cores-in .high))
+    (λ c. let core = core-in (c .before .before .before .before .before .before) in omega (arith, core .low, core .high, c .before .before .before .before .before .before .before .pre .0 .cores-in .high))
+    (λ c. let core = core-in (c .before .before .before .before .before .before) in omega (arith, core .low, core .high, c .before .before .before .before .before .before .before .pre .0 .cores-in .high))
+    place-requires
     (λ c κs. search needs)
     (λ c. search needs)
-    (λ c. search needs)
-    (λ c. search needs)
-    core-costs-requires
-    (λ c. search needs)
-    (λ c. simp length-take (omega arith))
-    (λ c. search needs)
-    (λ c. simp length-take (omega arith))
-    (λ c. search needs)
-    (λ c. simp length-take (omega arith))
-    (λ c. search needs)
-    (λ c. simp length-take (omega arith))
-    (λ c. search needs)
-    (λ c. simp length-take (omega arith))
-    (λ c. search needs)
-    judge-at-requires
+    (λ c κs. omega (arith, c .before .before .before .before .before .before .before .before .before .before .pre .0 .tasks-in .high))
+    settle-requires
     returns)

@@ -12,7 +12,7 @@ use Rattle.whole.proofs.trailer.Statement.{statement}
 use Rattle.whole.proofs.trailer.Tie as tie
 
 returns : tie.Need-returns
-returns c = c .no-place .ensures ∙ sym (wrong-count _ (rw (c .before .before .le32 .ensures) at (c .before .if1 .taken)))
+returns c = c .refused .ensures ∙ sym (wrong-count _ (rw (c .before .before .le32 .ensures) at (c .before .if1 .taken)))
 
 slice-aggregate-sums : tie.Need-slice-aggregate-sums
 slice-aggregate-sums c = let s = c .before .before .before .before .args .file .now in sym (length-take-le (length s - 12) s (omega arith))
@@ -31,20 +31,20 @@ summed c = let d = c .before .before in rw (d .le322 .ensures, d .before .sums .
 returns-2 : tie.Need-returns-2
 returns-2 c =
     let d = c .before .before .before in
-    c .no-place2 .ensures ∙ sym (wrong-sum _ (counted (d .before .before .before)) (rw (d .le322 .ensures, d .before .sums .ensures) at (c .before .if2 .taken)))
+    c .refused2 .ensures ∙ sym (wrong-sum _ (counted (d .before .before .before)) (rw (d .le322 .ensures, d .before .sums .ensures) at (c .before .if2 .taken)))
 
 returns-3 : tie.Need-returns-3
 returns-3 c =
     let d = c .before .before .before in
     let f = d .before .before .before .before in
-    c .no-place3 .ensures
+    c .refused3 .ensures
     ∙ sym (wrong-running _ (counted (f .before .before)) (summed (d .before)) (rw (d .le323 .ensures, f .sums .ensures) at (c .before .if3 .taken)))
 
 returns-4 : tie.Need-returns-4
 returns-4 c =
     let d = c .before .before .before in
     let f = d .before .before .before .before in
-    c .no-place4 .ensures
+    c .refused4 .ensures
     ∙ sym (trailer-right _ (counted (f .before .before)) (summed (d .before)) (rw (d .le323 .ensures, f .sums .ensures) at (c .before .if3 .left)))
 
 pub trailer-spec : {M : Type 1} → statement M

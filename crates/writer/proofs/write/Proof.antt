@@ -38,7 +38,7 @@ lengths c =
 returns-2 : tie.Need-returns-2
 returns-2 c =
     let f = c .before .before .before in
-    rw (c .wrote-nothing2 .ensures, c .before .no-place .ensures) (no-room _ _ (passed (f .before)) (omega (arith, lengths f, c .before .before .if2 .taken)))
+    rw (c .wrote-nothing2 .ensures, c .before .refused .ensures) (no-room _ _ (passed (f .before)) (omega (arith, lengths f, c .before .before .if2 .taken)))
 
 put-body-requires : tie.Need-put-body-requires
 put-body-requires c κs =
@@ -61,7 +61,7 @@ returns-3 c =
     let a = f .before .before .before .before .before .args in
     let e : f .file-length .result - 12 ≡ length (body (a .t)) = omega (arith, lengths f) in
     let h : length (encode (a .t)) ≤ length (a .out .now) = omega (arith, lengths f, p .before .before .if2 .left) in
-    rw (c .no-place2 .ensures, r .put-trailer .ensures, e, p .put-body .ensures, lengths f .1, file-stores (a .t) (a .out .now) h) (room _ _ (passed (f .before)) h)
+    rw (c .refused2 .ensures, r .put-trailer .ensures, e, p .put-body .ensures, lengths f .1, file-stores (a .t) (a .out .now) h) (room _ _ (passed (f .before)) h)
 
 pub write-spec : {M : Type 1} → statement M
 write-spec = tie.close (tie.spec (λ c κs. search needs) (λ c κs. search needs) returns (λ c κs. search needs) (λ c κs. search needs) (λ c κs. search needs) returns-2 put-body-requires (λ c. omega (arith, lengths (c .before .before .before .before .before .before))) put-trailer-requires (λ c κs. search needs) (λ c. search needs) returns-3)

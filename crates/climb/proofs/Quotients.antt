@@ -1,0 +1,54 @@
+-- A count of releases is small, and a product is tested by a division. Assumes nothing.
+use mathlib.Core.Path.{_≡_}
+use mathlib.Core.List.{List, [], _∷_}
+use Prim.Native.Nat.{ℕ, zero, suc, _+_, _-_, _*_, _/_, _^_, _≤_, _<_, zero-le}
+use native.Mathlib.Nat.{le-div-iff-mul-le, div-lt-iff-lt-mul, mul-le-mul}
+use native.Mathlib.Omega.{arith}
+use lib.ListN.{getD, set, replicate}
+use Rattle.laws.specs.Idioms.{_/↑_}
+use Rattle.climb.specs.Terms.{Small}
+
+-- a/b rounded up is at most m where a is at most m times b
+pub up-high : (a b m : ℕ) → 0 < b → a ≤ m * b → a /↑ b ≤ m
+up-high a b m h g =
+    let q : (a + (b - 1)) / b < m + 1 = div-lt-iff-lt-mul {k = b} {x = a + (b - 1)} {y = m + 1} h .1 (omega arith) in
+    omega arith
+
+pub under : (a b top : ℕ) → 0 < b → a ≤ top / b → a * b ≤ top
+under a b top h = le-div-iff-mul-le h .0
+
+pub over : (a b top : ℕ) → 0 < b → top / b < a → top < a * b
+over a b top h = div-lt-iff-lt-mul h .0
+
+-- a guess g that passes the test is one less than the count
+pub guessed : (t b g : ℕ) → 1 ≤ b → g * b < t → t - g * b ≤ b → g + 1 ≡ t /↑ b
+guessed t b g h above near =
+    let low : g + 1 ≤ (t + (b - 1)) / b = le-div-iff-mul-le {k = b} {x = g + 1} {y = t + (b - 1)} h .1 (omega arith) in
+    let high : (t + (b - 1)) / b < g + 2 = div-lt-iff-lt-mul {k = b} {x = t + (b - 1)} {y = g + 2} h .1 (omega arith) in
+    omega arith
+
+-- the guess is small
+pub guess-product : (t inv : ℕ) → t ≤ 10 ^ 12 → inv ≤ 2882303762 → t / 256 * inv ≤ 3906250000 * 2882303762
+guess-product t inv h g = let few : t / 256 ≤ 3906250000 = omega arith in mul-le-mul few g
+
+pub guess-high : (x : ℕ) → x ≤ 3906250000 * 2882303762 → x / 2 ^ 50 ≤ 10000
+guess-high x h = omega arith
+
+-- no inverse is too large: none at first, then one more
+zeros-small : (n i : ℕ) → getD (replicate n 0) i 0 ≤ 2882303762
+zeros-small zero i = zero-le
+zeros-small (suc n) zero = zero-le
+zeros-small (suc n) (suc i) = zeros-small n i
+
+pub small-none : (n : ℕ) → Small (replicate n 0)
+small-none n = record { each = zeros-small n }
+
+set-small : (l : List ℕ) (i j : ℕ) {x : ℕ} → ((k : ℕ) → getD l k 0 ≤ 2882303762) → x ≤ 2882303762 → getD (set l i x) j 0 ≤ 2882303762
+set-small [] i j so h = so j
+set-small (y ∷ l) zero zero so h = h
+set-small (y ∷ l) zero (suc j) so h = so (suc j)
+set-small (y ∷ l) (suc i) zero so h = so 0
+set-small (y ∷ l) (suc i) (suc j) so h = set-small l i j (λ k. so (suc k)) h
+
+pub small-next : {l : List ℕ} {x : ℕ} (i : ℕ) → Small l → x ≤ 2882303762 → Small (set l i x)
+small-next {l} i so h = record { each = λ j. set-small l i j (so .each) h }

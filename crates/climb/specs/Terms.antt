@@ -1,0 +1,109 @@
+-- The response equation of one task from plain lists: what the arrays that the rounds borrow stand for. Assumes nothing.
+use Prim.Native.Nat.{ℕ, zero, suc, _+_, _*_, _-_, _≤_, _<_, _^_, min}
+use mathlib.Core.Path.{_≡_}
+use mathlib.Core.Bool.{cond}
+use mathlib.Core.List.{List}
+use lib.Dec.{leb}
+use lib.ListN.{getD}
+use Rattle.laws.specs.Idioms.{_/↑_, Within}
+use Rattle.rules.specs.declared.Delay.{Delay}
+use Rattle.rules.specs.declared.Delay.the-variants.{Request, Job}
+use Rattle.climb.specs.declared.Own.{Own}
+use Rattle.climb.specs.declared.Applied.{Applied}
+
+-- the sum over the first n places, and over the places from a to e
+unfoldable pub sumBelow : (ℕ → ℕ) → ℕ → ℕ
+sumBelow f zero = 0
+sumBelow f (suc n) = sumBelow f n + f n
+
+unfoldable pub sumFrom : (ℕ → ℕ) → ℕ → ℕ → ℕ
+sumFrom f a e = sumBelow (λ j. f (a + j)) (e - a)
+
+-- "(t/T rounded up) times" a cost, or with one job carried in "(t/T rounded up, plus 1) times" it, for the task in place i
+unfoldable pub released : ℕ → ℕ → List ℕ → List ℕ → ℕ → ℕ
+released carried t periods costs i = (t /↑ getD periods i 0 + carried) * getD costs i 0
+
+abbrev pub askedBy : ℕ → ℕ → ℕ → ℕ → List ℕ → List ℕ → ℕ
+askedBy carried t a e periods costs = sumFrom (released carried t periods costs) a e
+
+-- a count, which is small
+pub record Counted (t period r : ℕ) : Type 0 where
+  pub is : r ≡ t /↑ period
+  pub high : r ≤ 10000
+
+-- no inverse is too large
+pub record Small (invs : List ℕ) : Type 0 where
+  pub each : (i : ℕ) → getD invs i 0 ≤ 2882303762
+
+-- in places a to e, at most 32, stand periods of accepted tasks, and costs up to a highest
+pub record Slots (highest a e : ℕ) (periods costs : List ℕ) : Type 0 where
+  pub rises : a ≤ e
+  pub few : e ≤ 32
+  pub period : (i : ℕ) → a ≤ i → i < e → Within (10 ^ 8) (10 ^ 12) (getD periods i 0)
+  pub cost : (i : ℕ) → a ≤ i → i < e → getD costs i 0 ≤ highest
+
+-- "A(q, t)" at so much a request
+pub record Charged (a e : ℕ) (periods asks : List ℕ) (weight t r : ℕ) : Type 0 where
+  pub is : r ≡ askedBy 1 t a e periods asks * weight
+  pub high : r ≤ (e - a) * (10001 * (2 * 10 ^ 13))
+
+-- ---- the tasks of all cores, core after core: those of the core in place q are in places starts[q] to starts[q + 1]
+
+pub record Group (own : Own) (starts periods asks : List ℕ) (q : ℕ) : Type 0 where
+  pub slots : Slots (10 ^ 6) (getD starts q 0) (getD starts (q + 1) 0) periods asks
+  pub weight-high : getD (own .weight) q 0 ≤ 2 * 10 ^ 7
+
+pub record Groups (own : Own) (starts periods asks : List ℕ) : Type 0 where
+  pub few : own .cores ≤ 8
+  pub each : (q : ℕ) → q < own .cores → Group own starts periods asks q
+
+-- what the core in place q delays a job in t
+unfoldable pub chargeOf : Own → List ℕ → List ℕ → List ℕ → ℕ → ℕ → ℕ
+chargeOf own starts periods asks t q = askedBy 1 t (getD starts q 0) (getD starts (q + 1) 0) periods asks * getD (own .weight) q 0
+
+-- below the largest u64
+pub record Delayed (own : Own) (starts periods asks : List ℕ) (t r : ℕ) : Type 0 where
+  pub is : r ≡ sumBelow (chargeOf own starts periods asks t) (own .cores)
+  pub high : r ≤ 32 * (10001 * (2 * 10 ^ 13))
+
+-- ---- the terms of one task's equation
+
+-- its own figures; where each core's tasks begin; T, C and H of the tasks, core after core
+pub record Terms : Type 0 where
+  pub own : Own
+  pub starts : List ℕ
+  pub periods : List ℕ
+  pub execs : List ℕ
+  pub asks : List ℕ
+
+abbrev pub termsOf : Own → List ℕ → List ℕ → List ℕ → List ℕ → Terms
+termsOf own starts periods execs asks = record { own = own; starts = starts; periods = periods; execs = execs; asks = asks }
+
+-- what the higher tasks of the core ask for: those from the first of the core to the task itself
+abbrev pub aboveOf : Terms → List ℕ → ℕ → ℕ
+aboveOf m costs t = askedBy 0 t (m .own .first) (m .own .place) (m .periods) costs
+
+-- "Request is RD(p) times (H + sum over the same j of (t/Tj rounded up) times Hj). Job is JD(p, t)."
+unfoldable pub requestOf : Terms → ℕ → ℕ
+requestOf m t = m .own .delay * (m .own .requests + aboveOf m (m .asks) t)
+
+unfoldable pub jobOf : Terms → ℕ → ℕ
+jobOf m t = sumBelow (chargeOf (m .own) (m .starts) (m .periods) (m .asks) t) (m .own .cores)
+
+-- "F(t) = C + sum over higher tasks j of core p of (t/Tj rounded up) times Cj + the smaller of request and job."
+unfoldable pub timeOf : Terms → ℕ → ℕ
+timeOf m t = m .own .exec + aboveOf m (m .execs) t + min (requestOf m t) (jobOf m t)
+
+-- "Equal delays count as request."
+unfoldable pub byOf : Terms → ℕ → Delay
+byOf m t = cond (leb (requestOf m t) (jobOf m t)) Request Job
+
+unfoldable pub applied : Terms → ℕ → Applied
+applied m t = record { time = timeOf m t; by = byOf m t }
+
+pub record Fair (m : Terms) : Type 0 where
+  pub exec-high : m .own .exec ≤ 10 ^ 12
+  pub requests-high : m .own .requests ≤ 10 ^ 6
+  pub execs : Slots (10 ^ 12) (m .own .first) (m .own .place) (m .periods) (m .execs)
+  pub asks : Slots (10 ^ 6) (m .own .first) (m .own .place) (m .periods) (m .asks)
+  pub groups : Groups (m .own) (m .starts) (m .periods) (m .asks)

@@ -1,0 +1,269 @@
+// F without overflow and its rounds, of plain terms: the tasks of all cores, core after core.
+ghost use mathlib.Core.Path.{_≡_};
+ghost use Prim.Native.Nat.{_*_, _^_, _≤_, min, max};
+ghost use Rattle.laws.specs.Idioms.{Within};
+ghost use Rattle.rules.specs.Tasks as Tasks;
+ghost use Rattle.climb.specs.Terms.{Counted, Small, Slots, Charged, Groups, Delayed, Fair, termsOf, applied, askedBy};
+ghost use Rattle.climb.specs.Run.{Ready, lowestOf, climbed, endedAs};
+use rules::Answer;
+use rules::Delay;
+use rules::Picos;
+use rules::Task;
+use rules::Verdict;
+
+// The latest allowed response.
+pub fn latest(task: Task) -> u64
+    ensures { λ r. ⌜ r ≡ Tasks.latest task ⌝ }
+{
+    task.deadline.0
+}
+
+// "t/T rounded up"
+fn divided(t: u64, period: u64) -> u64
+    requires { ⌜ (t ≤ 10 ^ 12) × Within (10 ^ 8) (10 ^ 12) period ⌝ }
+    ensures { λ r. ⌜ Counted t period r ⌝ }
+{
+    (t + (period - 1)) / period
+}
+
+// About 2^58 divided by a period. What counts with it tests what it gives, so this is free to be anything that is not too large.
+fn inverse(period: u64) -> u64
+    ensures { λ r. ⌜ r ≤ 2882303762 ⌝ }
+{
+    if period < 100000000 {
+        return 0;
+    }
+    288230376151711744 / period
+}
+
+// That of the first n periods.
+pub fn inverses(n: usize, periods: &[u64; 33]) -> [u64; 33]
+    requires { ⌜ n ≤ 33 ⌝ }
+    ensures { λ r. ⌜ Small r ⌝ }
+{
+    let mut out = [0u64; 33];
+    let mut i: usize = 0;
+    while i < n {
+        out[i] = inverse(periods[i]);
+        i += 1;
+    }
+    out
+}
+
+// "t/T rounded up", guessed by a multiplication and tested; divided where the guess is wrong.
+fn up(t: u64, period: u64, inv: u64) -> u64
+    requires { ⌜ (t ≤ 10 ^ 12) × Within (10 ^ 8) (10 ^ 12) period ⌝ }
+    requires { ⌜ inv ≤ 2882303762 ⌝ }
+    ensures { λ r. ⌜ Counted t period r ⌝ }
+{
+    let guess = ((t >> 8) * inv) >> 50;
+    let below = guess * period;
+    if below < t {
+        if t - below <= period {
+            return guess + 1;
+        }
+    }
+    divided(t, period)
+}
+
+// The product, or the largest u64 where it is larger than that.
+fn capped(a: u64, b: u64) -> u64
+    ensures { λ r. ⌜ r ≡ min (a * b) 18446744073709551615 ⌝ }
+{
+    if b == 0 {
+        return 0;
+    }
+    if a <= 18446744073709551615 / b {
+        a * b
+    } else {
+        18446744073709551615
+    }
+}
+
+// What the tasks in places a to e ask for in t, of what each job costs, and each with so many jobs carried in.
+fn asked(
+    a: usize,
+    e: usize,
+    periods: &[u64; 33],
+    invs: &[u64; 33],
+    costs: &[u64; 33],
+    carried: u64,
+    t: u64,
+) -> u64
+    requires { ⌜ (t ≤ 10 ^ 12) × (carried ≤ 1) × Small (now invs) ⌝ }
+    requires { ⌜ Slots (10 ^ 12) a e (now periods) (now costs) ⌝ }
+    ensures { λ r. ⌜ r ≡ askedBy carried t a e (now (periods .entry)) (now (costs .entry)) ⌝ }
+{
+    let mut sum: u64 = 0;
+    let mut i = a;
+    while i < e {
+        sum += (up(t, periods[i], invs[i]) + carried) * costs[i];
+        i += 1;
+    }
+    sum
+}
+
+// What those of a core cost, each with the job that it carries in, at so much a request. Of a core whose requests cost nothing, as the own
+// core's, nothing is counted.
+fn charged(
+    a: usize,
+    e: usize,
+    periods: &[u64; 33],
+    invs: &[u64; 33],
+    asks: &[u64; 33],
+    weight: u64,
+    t: u64,
+) -> u64
+    requires { ⌜ (t ≤ 10 ^ 12) × (weight ≤ 2 * 10 ^ 7) × Small (now invs) ⌝ }
+    requires { ⌜ Slots (10 ^ 6) a e (now periods) (now asks) ⌝ }
+    ensures { λ r. ⌜ Charged a e (now (periods .entry)) (now (asks .entry)) weight t r ⌝ }
+{
+    if weight == 0 {
+        return 0;
+    }
+    asked(a, e, periods, invs, asks, 1, t) * weight
+}
+
+// The judged task's own figures: C, H and the latest allowed response; RD of its core, and the weight there of one request of each core; how
+// many cores there are; the place of its core's first task, and its own.
+pub struct Own {
+    pub exec: u64,
+    pub requests: u64,
+    pub latest: u64,
+    pub delay: u64,
+    pub weight: [u64; 8],
+    pub cores: usize,
+    pub first: usize,
+    pub place: usize,
+}
+
+// The lowest start.
+fn lowest(own: Own) -> u64
+    ensures { λ r. ⌜ r ≡ lowestOf own ⌝ }
+{
+    own.exec
+}
+
+// Job, core by core.
+fn job(
+    own: Own,
+    from: &[usize; 9],
+    periods: &[u64; 33],
+    invs: &[u64; 33],
+    asks: &[u64; 33],
+    t: u64,
+) -> u64
+    requires { ⌜ (t ≤ 10 ^ 12) × Small (now invs) ⌝ }
+    requires { ⌜ Groups own (now from) (now periods) (now asks) ⌝ }
+    ensures { λ r. ⌜ Delayed own (now (from .entry)) (now (periods .entry)) (now (asks .entry)) t r ⌝ }
+{
+    let mut sum: u64 = 0;
+    let mut q: usize = 0;
+    while q < own.cores {
+        sum += charged(from[q], from[q + 1], periods, invs, asks, own.weight[q], t);
+        q += 1;
+    }
+    sum
+}
+
+// What F gives, and which of the two delays decided.
+pub struct Applied {
+    pub time: u64,
+    pub by: Delay,
+}
+
+// F. Request may be far above 64 bits; capped, it is above job where it was.
+fn apply(
+    own: Own,
+    from: &[usize; 9],
+    periods: &[u64; 33],
+    invs: &[u64; 33],
+    execs: &[u64; 33],
+    asks: &[u64; 33],
+    t: u64,
+) -> Applied
+    requires { ⌜ (t ≤ 10 ^ 12) × Small (now invs) ⌝ }
+    requires { ⌜ Fair (termsOf own (now from) (now periods) (now execs) (now asks)) ⌝ }
+    ensures { λ r. ⌜ r ≡ applied (termsOf own (now (from .entry)) (now (periods .entry)) (now (execs .entry)) (now (asks .entry))) t ⌝ }
+{
+    let exec = own.exec + asked(own.first, own.place, periods, invs, execs, 0, t);
+    let requests = own.requests + asked(own.first, own.place, periods, invs, asks, 0, t);
+    let delay = own.delay;
+    let request = capped(delay, requests);
+    let job = job(own, from, periods, invs, asks, t);
+    if request <= job {
+        Applied {
+            time: exec + request,
+            by: Delay::Request,
+        }
+    } else {
+        Applied {
+            time: exec + job,
+            by: Delay::Job,
+        }
+    }
+}
+
+fn larger(a: u64, b: u64) -> u64
+    ensures { λ r. ⌜ r ≡ max a b ⌝ }
+{
+    if a < b { b } else { a }
+}
+
+// Whether F lowers the start that the rounds use, and the answer.
+pub struct Climbed {
+    pub high: bool,
+    pub answer: Answer,
+}
+
+// A miss, or no rounds at all.
+fn ended(high: bool, rounds: u64) -> Climbed
+    ensures { λ r. ⌜ r ≡ endedAs high rounds ⌝ }
+{
+    Climbed {
+        high,
+        answer: Answer {
+            verdict: Verdict::Misses,
+            rounds,
+        },
+    }
+}
+
+// The rounds from the larger of the lowest start and the given one, where F does not lower that.
+pub fn settle(
+    own: Own,
+    from: &[usize; 9],
+    periods: &[u64; 33],
+    invs: &[u64; 33],
+    execs: &[u64; 33],
+    asks: &[u64; 33],
+    given: u64,
+) -> Climbed
+    requires { ⌜ Small (now invs) ⌝ }
+    requires { ⌜ Ready (termsOf own (now from) (now periods) (now execs) (now asks)) given ⌝ }
+    ensures { λ r. ⌜ r ≡ climbed (termsOf own (now (from .entry)) (now (periods .entry)) (now (execs .entry)) (now (asks .entry))) given ⌝ }
+{
+    let mut t = larger(lowest(own), given);
+    let mut n: u64 = 1;
+    loop {
+        let next = apply(own, from, periods, invs, execs, asks, t);
+        if next.time == t {
+            let by = next.by;
+            return Climbed {
+                high: false,
+                answer: Answer {
+                    verdict: Verdict::Holds(Picos(t), by),
+                    rounds: n,
+                },
+            };
+        }
+        if next.time < t {
+            return ended(true, 0);
+        }
+        if own.latest < next.time {
+            return ended(false, n);
+        }
+        t = next.time;
+        n += 1;
+    }
+}

@@ -1,0 +1,2 @@
+-- What the layout's contracts cite beside the rules.
+pub mod Grouped
