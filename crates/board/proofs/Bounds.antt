@@ -10,7 +10,7 @@ use Rattle.rules.specs.declared.Table.{Table}
 use Rattle.rules.specs.Cores.{share, setOf, isNear, isFar, near}
 use Rattle.rules.specs.Sound.{Sound}
 use Rattle.rules.specs.Dram.{crossing, conflict}
-use Rattle.rules.specs.Board.{weight}
+use Rattle.rules.specs.Board.{weight, pricesOf}
 use Rattle.delays.specs.Figures.{figuresOf}
 use Rattle.delays.proofs.Bounds.{bounded}
 use Rattle.board.proofs.Masks.{bit-high, counted}
@@ -48,9 +48,9 @@ module _ (t : Table) (sound : Sound t) where
   unfolding near
   near-few p = omega (arith, those-few (isNear t p) (upTo (t .cores)), length-from 1 (t .cores), sound .cores-in .high)
 
-  pub weight-bounded : (p q : ℕ) → weight t p q ≤ 2 * 10 ^ 7
-  unfolding weight
-  weight-bounded p q =
+  pub price-bounded : (p q : ℕ) → pricesOf t p .perCore q ≤ 2 * 10 ^ 7
+  unfolding weight pricesOf
+  price-bounded p q =
       let beyond = sum-high (λ r. cond (isFar t r q) (crossing t .0) 0) (390 * 5000) (λ r. le-trans (cond-high (isFar t r q) (crossing t .0)) crossing-high) (near t p) in
       let own = once (not (eqb q p)) (share (setOf t p) (setOf t q)) (crossing t .0) (conflict t .0) (516 * 5000) (omega (arith, crossing-high)) conflict-high in
       omega (arith, near-few p)

@@ -80,14 +80,14 @@ module _ (m : Terms) (given : ℕ) {start : ℕ} (ok : Ready m given) (raised : 
 
   -- the first round, or a later one, does not go down
   allowed : start ≤ timeOf m start → Allowed (timeOf m) (lowestOf (m .own)) (m .own .latest) given
-  allowed up = record { lowest = ok .lowest-high; given = ok .given-high; rises = rw raised at up }
+  allowed up = record { given = ok .given-high; rises = λ fits. rw raised at up }
 
   answer-is : start ≤ timeOf m start → {v : Verdict} {n : ℕ} → Rounds (timeOf m) (m .own .latest) start v n
       → _≡_ {A = Climbed} (record { high = false; answer = record { verdict = withDelay (byOf m) v; rounds = n } }) (climbed m given)
   unfolding climbed isHigh answerOf
   answer-is up {v} {n} k =
       let run : Rounds (timeOf m) (m .own .latest) (max (lowestOf (m .own)) given) v n = rw raised at k in
-      let e = judge-only (terms-equation m (ok .lowest-low)) (allowed up) run in
+      let e = judge-only (terms-equation m (ok .lowest-low)) (allowed up) (ok .lowest-high) run in
       let q : startFrom m given ≤ timeOf m (startFrom m given) = rw raised at up in
       rw (le-ltb _ _ q, e .0, e .1)
 

@@ -1,9 +1,8 @@
 -- The first late start and the first high one, as a loop over places finds them: i places are passed, and place i has number i + 1. Assumes nothing.
-use mathlib.Core.Path.{_≡_, ap, _∙_}
+use mathlib.Core.Path.{_≡_, ap}
 use mathlib.Core.Bool.{Bool, true, false, cond}
 use mathlib.Core.List.{List, map}
 use Prim.Native.Nat.{ℕ, _+_, _-_, _≤_, _<_}
-use native.Mathlib.Nat.{sub-zero}
 use native.Mathlib.Omega.{arith}
 use lib.ListN.{getD}
 use borrow.Author.Tests.{lt-ltb, le-ltb, ltb-false}
@@ -14,30 +13,12 @@ use Rattle.rules.specs.declared.AllJudged.{AllJudged}
 use Rattle.laws.specs.Idioms.{upTo, entry, filled}
 use Rattle.rules.specs.Tasks.{latest, noTask, taskOf}
 use Rattle.rules.specs.Judgement.{misses, judge}
-use Rattle.rules.specs.Chain.{accepted, refused, isAccepted, firstFrom, first}
+use Rattle.rules.specs.Chain.{accepted, isAccepted}
 use Rattle.rules.specs.Refusals.{lateStart, highStart}
 use Rattle.rules.specs.Operations.{answersFrom}
-use Rattle.rules.proofs.First.{first-hit, first-next, first-done, none-first}
+use Rattle.rules.proofs.First.{none-first}
 use Rattle.climb.specs.declared.Climbed.{Climbed}
 use Rattle.rounds.specs.Numbered.{climbedFor, firstLate, firstHigh, noneJudged, judgedTasks}
-
--- what is left of looking for the first fault at place i
-abbrev pub Left : ℕ → (ℕ → Bool) → ℕ → ℕ → Type 0
-Left number fault n i = first number fault n ≡ firstFrom number fault (i + 1) (n - i)
-
-module _ (number : ℕ) (fault : ℕ → Bool) (n : ℕ) where
-  pub left-all : Left number fault n 0
-  left-all = rw sub-zero
-
-  module _ (i : ℕ) (left : Left number fault n i) where
-    pub left-hit : i < n → fault (i + 1) ≡ true → refused number (i + 1) ≡ first number fault n
-    left-hit h e = rw (left, first-hit number fault n i h e)
-
-    pub left-next : i < n → fault (i + 1) ≡ false → Left number fault n (i + 1)
-    left-next h e = left ∙ first-next number fault n i h e
-
-    pub left-none : n ≤ i → accepted ≡ first number fault n
-    left-none h = rw (left, first-done number fault n i h)
 
 -- ---- 13
 

@@ -4,7 +4,7 @@ use mathlib.Core.List.{List, [], _∷_, _++_, map}
 use Prim.Native.Nat.{ℕ, zero, suc, _+_, _-_, _≤_, _<_}
 use native.Mathlib.Nat.{not-suc-le-zero, le-of-suc-le-suc}
 use native.Mathlib.Omega.{arith}
-use lib.ListN.{length, length-append, length-map, length-replicate, take, take-append-drop, drop, getD, List·getD-append}
+use lib.ListN.{length, take, take-append-drop, drop, getD, List·getD-append}
 use lib.Seq.{take-take}
 use Rattle.rules.specs.declared.Task.{Task}
 use Rattle.rules.specs.declared.Table.{Table}
@@ -14,7 +14,8 @@ use Rattle.board.specs.declared.CoreCosts.{CoreCosts}
 use Rattle.board.specs.Costs.{costsOf, noCosts}
 use Rattle.laws.specs.Idioms.{entry, filled, upTo, those, Within}
 use Rattle.laws.proofs.Sums.{those-append}
-use Rattle.laws.proofs.Runs.{from-length}
+use Rattle.laws.proofs.Runs.{length-map-from}
+use Rattle.laws.proofs.Filled.{filled-length}
 use Rattle.laws.proofs.Places.{place-of}
 use Rattle.climb.specs.Terms.{Terms, termsOf}
 use Rattle.climb.specs.Run.{Ready, climbed}
@@ -33,7 +34,7 @@ pub cost-at : (t : Table) → Sound t → {all : List CoreCosts} → all ≡ all
 unfolding allCosts
 cost-at t s e {p} there d =
     let every = filled 8 noCosts (map (costsOf t) (upTo (t .cores))) in
-    let long : length every ≡ 8 = rw (length-append, length-replicate, length-map, from-length) (omega (arith, s .cores-in .high)) in
+    let long : length every ≡ 8 = filled-length 8 noCosts (map (costsOf t) (upTo (t .cores))) (rw (length-map-from (costsOf t) (t .cores) 1) (s .cores-in .high)) in
     rw (e, getD-within every (p - 1) d noCosts (omega (arith, there .high, s .cores-in .high)))
     (place-of noCosts (costsOf t) 8 (t .cores) p (there .low) (there .high))
 

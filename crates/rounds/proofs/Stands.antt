@@ -12,19 +12,19 @@ use Rattle.rules.specs.declared.Table.{Table}
 use Rattle.rules.specs.declared.Delay.{Delay}
 use Rattle.rules.specs.declared.Answer.{Answer}
 use Rattle.rules.specs.Tasks.{C, T, H, releases, latest, tasksOf, taskOf, coreOf, isOn, tasksOn, higher, arrivals}
-use Rattle.rules.specs.Board.{memoryOf, weight}
+use Rattle.rules.specs.Board.{memoryOf, pricesOf, jobAt}
 use Rattle.rules.specs.Response.{preemption, request, job, delay, response, decided, F, decider}
 use Rattle.rules.specs.Judgement.{withDelay, lowest, roundsOf, judge}
 use Rattle.rules.specs.Refusals.{highStart}
 use Rattle.rules.specs.Sound.{Sound, SoundTask}
 use Rattle.rules.proofs.SoundTasks.{sound-all, sound-higher}
-use Rattle.rules.proofs.Weights.{JD-by-core}
+use Rattle.rules.proofs.Dram.{memory-priced}
 use Rattle.board.specs.Costs.{costsOf}
 use Rattle.laws.specs.Idioms.{sumOver, from, upTo}
 use Rattle.laws.proofs.Sums.{sum-append, upTo-next}
 use Rattle.laws.proofs.Members.{member-those}
 use Rattle.laws.proofs.Places.{place-of}
-use Rattle.board.proofs.Bounds.{weight-bounded}
+use Rattle.board.proofs.Bounds.{price-bounded}
 use Rattle.climb.specs.Terms.{Terms, termsOf, sumBelow, chargeOf, aboveOf, requestOf, jobOf, timeOf, byOf, Group, Fair}
 use Rattle.climb.specs.Run.{lowestOf, Ready, answerOf, isHigh, climbed}
 use Rattle.climb.proofs.Sums.{below-next, below-same}
@@ -64,26 +64,28 @@ module _ (t : Table) (k : ℕ) {first place : ℕ} {starts spans costs asks : Li
 
   -- ---- F
 
-  weight-at : (q : ℕ) → q < t .cores → getD (m .own .weight) q 0 ≡ weight t (coreOf t k) (q + 1)
+  abbrev price : ℕ → ℕ
+  price q = pricesOf t (coreOf t k) .perCore q
+
+  weight-at : (q : ℕ) → q < t .cores → getD (m .own .weight) q 0 ≡ price (q + 1)
   unfolding costsOf
   weight-at q h =
       let less : q + 1 - 1 ≡ q = omega arith in
-      rw less at (place-of 0 (weight t (coreOf t k)) 8 (t .cores) (q + 1) (omega arith) (omega arith))
+      rw less at (place-of 0 price 8 (t .cores) (q + 1) (omega arith) (omega arith))
 
-  charge-is : (x q : ℕ) → q < t .cores → chargeOf (m .own) starts spans asks x q ≡ arrivals t (q + 1) x * weight t (coreOf t k) (q + 1)
+  charge-is : (x q : ℕ) → q < t .cores → chargeOf (m .own) starts spans asks x q ≡ arrivals t (q + 1) x * price (q + 1)
   unfolding chargeOf arrivals releases
   charge-is x q h = let j = g .each q h in rw (weight-at q h, asked-is refl (j .periods) (j .requests) (j .next) 1 x)
 
   job-is : (x : ℕ) → jobOf m x ≡ job (memoryOf t (coreOf t k)) x
-  unfolding jobOf job memoryOf
+  unfolding jobOf job jobAt
   job-is x =
-      below-same _ _ (t .cores) (charge-is x)
-      ∙ sym (below-cores (λ q. arrivals t q x * weight t (coreOf t k) q) (t .cores))
-      ∙ sym (JD-by-core t (coreOf t k) x)
+      rw (memory-priced t (coreOf t k))
+      (below-same _ _ (t .cores) (charge-is x) ∙ sym (below-cores (λ q. arrivals t q x * price q) (t .cores)))
 
   request-is : (x : ℕ) → requestOf m x ≡ request (memoryOf t (coreOf t k)) (taskOf t k) (higher t k) x
-  unfolding requestOf request memoryOf releases costsOf
-  request-is x = rw (asked-is refl (above .periods) (above .requests) (above .ends) 0 x) (simp add-zero)
+  unfolding requestOf request releases costsOf
+  request-is x = rw (memory-priced t (coreOf t k), asked-is refl (above .periods) (above .requests) (above .ends) 0 x) (simp add-zero)
 
   preemption-is : (x : ℕ) → aboveOf m costs x ≡ preemption (higher t k) x
   unfolding preemption releases
@@ -127,7 +129,7 @@ module _ (t : Table) (k : ℕ) {first place : ℕ} {starts spans costs asks : Li
         let j = g .each q h in
         record {
           slots = slots-are refl (j .periods) (j .requests) (j .next) (j .few) (sound-on (q + 1)) (λ i sound. sound .H-high);
-          weight-high = rw (weight-at q h) (weight-bounded t s (coreOf t k) (q + 1));
+          weight-high = rw (weight-at q h) (price-bounded t s (coreOf t k) (q + 1));
         }
 
     fair-for : Fair m
