@@ -1,7 +1,7 @@
 -- Starts none of which is refused: fresh ones, and the older bounds where the newer table is the older one worsened. Assumes nothing.
 use mathlib.Core.Path.{_≡_, refl, ap, _∙_}
 use mathlib.Core.Bool.{true, false}
-use mathlib.Core.List.{List}
+use mathlib.Core.List.{List, map}
 use Prim.Native.Nat.{ℕ, zero, suc, _-_, _≤_}
 use lib.ListN.{length, getD, replicate, List·getD-map}
 use Rattle.equation.proofs.Judge.{fresh-allowed}
@@ -12,7 +12,7 @@ use Rattle.rules.specs.Refusals.{checkTable, lateStart, highStart}
 use Rattle.rules.specs.Operations.{answersFrom, fresh, olderBound}
 use Rattle.rules.proofs.Accepted.{sound}
 use Rattle.rules.proofs.First.{first-none}
-use Rattle.laws.specs.Idioms.{entry}
+use Rattle.laws.specs.Idioms.{upTo, entry}
 use Rattle.rules.proofs.Instance.{equation-of, lowest-fits}
 use Rattle.rules.specs.Chain.{accepted, isAccepted}
 use Rattle.rules.proofs.Starts.{allowed-passes}
@@ -62,7 +62,7 @@ module _ (t : Table) (passed : isAccepted (checkTable t) ≡ true) where
 
   pub answers-long : (start : ℕ → ℕ) → length (answersFrom t start) ≡ 32
   unfolding answersFrom
-  answers-long start = filled-length 32 (misses 0) _ (rw (length-map-from (λ k. judge t k (start k)) (t .tasks) 1) (sound t passed .tasks-in .high))
+  answers-long start = filled-length 32 (misses 0) (map (λ k. judge t k (start k)) (upTo (t .tasks))) (rw (length-map-from (λ k. judge t k (start k)) (t .tasks) 1) (sound t passed .tasks-in .high))
 
   -- the start of task number k
   pub older-start : (k : ℕ) → 1 ≤ k → k ≤ t .tasks → entry 0 (olderStarts t) k ≡ olderBound t k

@@ -9,7 +9,8 @@ use Rattle.rules.specs.Judgement.{misses}
 use Rattle.rules.specs.Operations.{answersFrom, fresh}
 use Rattle.judge.proofs.Column.{Column, column-none, column-next}
 use Rattle.judge.specs.Carried.{startOf, olderStarts}
-use Rattle.judge.proofs.Allowed.{all-fresh, answers-long, same-answers, fresh-starts}
+use Rattle.judge.proofs.Allowed.{all-fresh, answers-long, fresh-starts}
+use Rattle.rules.proofs.LentStarts.{answers-same}
 use Rattle.judge.proofs.older_starts.Statement.{statement}
 use Rattle.judge.proofs.older_starts.Tie as tie
 
@@ -20,7 +21,7 @@ abbrev μ-loop : tie.MeasureT-loop
 μ-loop all starts₀ i₀ starts i = 32 - i
 
 all-answers : (c : tie.After-answers Inv-loop μ-loop) → c .answers .result ≡ answersFrom (c .before .args .older) fresh
-all-answers c = c .answers .ensures ∙ same-answers (c .before .args .older) _ fresh (λ k low high. fresh-starts k)
+all-answers c = c .answers .ensures ∙ answers-same (c .before .args .older) _ fresh (λ k low high. fresh-starts k)
 
 all-long : (c : tie.After-answers Inv-loop μ-loop) → length (c .answers .result) ≡ 32
 all-long c = ap length (all-answers c) ∙ answers-long (c .before .args .older) (c .before .pre) fresh
