@@ -8,11 +8,11 @@ use borrow.Author.Tests.{eq-eqb, ne-eqb}
 use Rattle.laws.specs.Idioms.{entry, filled}
 use Rattle.rules.specs.Judgement.{judge, misses}
 use Rattle.rules.specs.Chain.{isAccepted}
-use Rattle.rules.specs.Refusals.{checkTable}
-use Rattle.rules.specs.File.{tasksIn, checkWhole, decode}
+use Rattle.rules.specs.File.{tasksIn, decode}
 use Rattle.rules.specs.Operations.{checkFile, reading, answersFrom, judgeAll}
 use Rattle.rules.proofs.Accepted.{sound}
-use Rattle.rules.proofs.Chain.{both-accepted, first-refuses, second-decides}
+use Rattle.rules.proofs.Reading.{decoded-accepted, read-table}
+use Rattle.rules.proofs.Chain.{first-refuses, second-decides}
 use Rattle.capi.specs.Codes.{codeOf}
 use Rattle.capi.specs.Columns.{checkJudging, answersOf, columnAfter, Columns, JudgedFile}
 use Rattle.laws.proofs.Filled.{take-filled}
@@ -72,14 +72,10 @@ module _ (s starts : List ℕ) {bounds rounds by : List ℕ} where
 -- ---- what an accepted file gives
 
 module _ (s : List ℕ) (passes : checkFile s .number ≡ 0) where
-  pub read-table : reading s .table ≡ decode s
-  unfolding reading
-  read-table = rw (eq-eqb _ _ passes)
-
   pub few-tasks : tasksIn s ≤ 32
-  unfolding checkFile decode
-  few-tasks = sound (decode s) (both-accepted (checkWhole s) (checkTable (decode s)) (eq-eqb _ _ passes) .1) .tasks-in .high
+  unfolding decode
+  few-tasks = sound (decode s) (decoded-accepted s (eq-eqb _ _ passes)) .tasks-in .high
 
   pub lent-judged : (starts : List ℕ) → judgeAll (reading s .table) (filled 32 0 (take 32 starts)) ≡ judgeAll (decode s) starts
   unfolding decode
-  lent-judged starts = rw read-table (lent-starts (decode s) starts few-tasks)
+  lent-judged starts = rw (read-table s (eq-eqb _ _ passes)) (lent-starts (decode s) starts few-tasks)

@@ -103,8 +103,7 @@ fn all_starts(starts: &[u64]) -> [u64; 32]
 pub extern "C" fn ryb_read(file: &[u8]) -> u16
     ensures { λ r. ⌜ r ≡ codeOf (checkFile (now (file .entry))) ⌝ }
 {
-    let read = file::read(file);
-    code(read.refusal)
+    code(file::check(file))
 }
 
 // Reads and judges all tasks. A refusal changes nothing.
@@ -123,7 +122,7 @@ pub extern "C" fn ryb_judge(
         return code(read.refusal);
     }
     let table = read.table;
-    let judged = judge::judge_all(table, all_starts(starts));
+    let judged = judge::judge_accepted(table, all_starts(starts));
     if judged.refusal.number != 0 {
         return code(judged.refusal);
     }

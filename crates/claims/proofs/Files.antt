@@ -8,12 +8,11 @@ use lib.Seq.{take-append-seam, drop-append-seam}
 use borrow.Author.Tests.{le-ltb}
 use Rattle.rules.specs.declared.Table.{Table}
 use Rattle.rules.specs.Chain.{accepted, isAccepted}
-use Rattle.rules.specs.Refusals.{checkTable}
-use Rattle.rules.specs.File.{encode, decode, checkWhole}
+use Rattle.rules.specs.File.{encode, decode}
 use Rattle.rules.specs.Operations.{emptyTable, checkFile, reading, checkWrite, writing, outAfter}
 use Rattle.laws.specs.Bytes.{Bytes}
 use Rattle.rules.proofs.EveryRule.{every-rule}
-use Rattle.rules.proofs.Chain.{both-accepted}
+use Rattle.rules.proofs.Reading.{file-whole, decoded-accepted, read-table, read-accepted}
 use Rattle.claims.specs.Files.{AcceptedFile, AcceptedTable, Damage, Shape, cleared, Return, ReturnInPlace, OneToOne, NotEmpty}
 use Rattle.claims.proofs.Whole.{Whole, whole, came-whole}
 use Rattle.claims.proofs.Damage.{not-cut, not-altered}
@@ -30,22 +29,11 @@ fails false h = refl
 -- ---- an accepted file
 
 module _ (s : List ℕ) (ok : AcceptedFile s) where
-  links : (isAccepted (checkWhole s) ≡ true) × AcceptedTable (decode s)
-  unfolding reading checkFile
-  links = both-accepted (checkWhole s) (checkTable (decode s)) ok
-
   came : Whole s
-  came = whole s (links .0)
+  came = whole s (file-whole s ok)
 
-  table-read : reading s .table ≡ decode s
-  unfolding reading
-  table-read = rw ok
-
-  pub read-accepted : AcceptedTable (reading s .table)
-  read-accepted = rw table-read (links .1)
-
-  pub read-written-back : Bytes s → encode (reading s .table) ≡ s
-  read-written-back b = rw table-read (written-again b came)
+  read-written-back : Bytes s → encode (reading s .table) ≡ s
+  read-written-back b = rw (read-table s ok) (written-again b came)
 
 pub damage : Damage
 damage = record {
@@ -60,7 +48,7 @@ module _ (t : Table) (shape : Shape t) (passed : AcceptedTable t) where
   unfolding checkFile
   check-written = rw (came-whole (encode t) (encode-whole shape passed), read-again shape passed) (cleared-same t shape passed ∙ table-plain t passed)
 
-  pub written-read-back : reading (encode t) ≡ record { refusal = accepted; table = cleared t }
+  written-read-back : reading (encode t) ≡ record { refusal = accepted; table = cleared t }
   unfolding reading
   written-read-back = rw (check-written, read-again shape passed)
 
@@ -86,7 +74,7 @@ return = record {
   read-written = written-read-back;
   written-read = λ s b ok. read-written-back s ok b;
   unused-zero = λ s. read-either (λ t. cleared t ≡ t) s (λ ok. already-cleared s) empty-cleared;
-  shape-read = λ s. read-either Shape s (λ ok. shape-of-read s (links s ok .1)) empty-shape;
+  shape-read = λ s. read-either Shape s (λ ok. shape-of-read s (decoded-accepted s ok)) empty-shape;
 }
 
 -- ---- writing into a lent buffer

@@ -16,6 +16,7 @@ use Rattle.rules.proofs.Chain.{both-accepted, no-fault}
 use Rattle.laws.specs.Idioms.{Within}
 use Rattle.laws.proofs.Tests.{inside}
 use Rattle.rules.proofs.Accepted.{sound}
+use Rattle.rules.proofs.Reading.{file-whole, decoded-accepted}
 use Rattle.file.specs.Places.{Sized}
 use Rattle.file.specs.Answers.{readNothing}
 use Rattle.whole.proofs.Checks.{whole-long, whole-length}
@@ -60,16 +61,12 @@ module _ (s : List ℕ) where
     unfolding reading
     read-accepted = simp e
 
-    file-links : (isAccepted (checkWhole s) ≡ true) × (isAccepted (checkTable (decode s)) ≡ true)
-    unfolding checkFile
-    file-links = both-accepted (checkWhole s) (checkTable (decode s)) e
-
     pub file-sized : Sized s
-    file-sized = whole-sized (file-links .0)
+    file-sized = whole-sized (file-whole s e)
 
     pub file-counts : (coresIn s ≤ 8) × (tasksIn s ≤ 32)
     unfolding decode
-    file-counts = let counts = sound (decode s) (file-links .1) in (counts .cores-in .high, counts .tasks-in .high)
+    file-counts = let counts = sound (decode s) (decoded-accepted s e) in (counts .cores-in .high, counts .tasks-in .high)
 
   module _ (k : ℕ) where
     pub view-refused : isAccepted (checkFile s) ≡ false → checkView s k ≡ checkFile s

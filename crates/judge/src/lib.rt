@@ -170,9 +170,9 @@ pub fn judge_one(table: Table, k: u8, start: u64) -> Judged
     }
 }
 
-// Of all, for a table that passed the checks before a judgement, as one that was read: 13 and 14, or the answers.
-pub fn judge_checked(table: Table, starts: [u64; 32]) -> AllJudged
-    requires { ⌜ isAccepted (checkJudged table) ≡ true ⌝ }
+// Of all, for a table that is known to be accepted, as one that was read: 13 and 14, or the answers.
+pub fn judge_accepted(table: Table, starts: [u64; 32]) -> AllJudged
+    requires { ⌜ isAccepted (checkTable table) ≡ true ⌝ }
     ensures { λ r. ⌜ r ≡ judgeAll table starts ⌝ }
 {
     let late = rounds::late(table, starts);
@@ -190,7 +190,7 @@ pub fn judge_all(table: Table, starts: [u64; 32]) -> AllJudged
     if refusal.number != 0 {
         return rounds::none_judged(refusal);
     }
-    judge_checked(table, starts)
+    judge_accepted(table, starts)
 }
 
 // The answers of an accepted table from starts none of which is refused.

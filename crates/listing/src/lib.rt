@@ -10,8 +10,12 @@ use rules::Table;
 use text::give;
 use text::put_phrase;
 use text::put_word;
+ghost use mathlib.Core.Path.{_≡_};
+ghost use mathlib.Core.Bool.{true};
 ghost use Prim.Native.Nat.{_≤_};
 ghost use lib.ListN.{length, replicate};
+ghost use Rattle.rules.specs.Chain.{isAccepted};
+ghost use Rattle.rules.specs.Refusals.{checkTable};
 ghost use Rattle.rules.specs.Operations.{judgeAll};
 ghost use Rattle.rules.specs.Listing.{tableLines, listing};
 ghost use Rattle.text.specs.Put.{Put, Given};
@@ -56,10 +60,11 @@ pub fn refused(number: u8, out: &mut [u8]) -> usize
 
 // A table that was read, judged from nothing.
 fn list_table(t: Table, out: &mut [u8]) -> usize
+    requires { ⌜ isAccepted (checkTable t) ≡ true ⌝ }
     ensures { λ r. ⌜ Given (tableText t (judgeAll t (replicate 32 0) .answers)) (now (out .entry)) r (now (out .exit)) ⌝ }
     ensures { λ _. ⌜ length (tableText t (judgeAll t (replicate 32 0) .answers)) ≤ 3266 ⌝ }
 {
-    let judged = judge::judge_all(t, [0u64; 32]);
+    let judged = judge::judge_accepted(t, [0u64; 32]);
     let answers = judged.answers;
     lines(t, answers, out)
 }

@@ -39,6 +39,11 @@ pub judged-accepted : (t : Table) → isAccepted (checkJudged t) ≡ true → is
 unfolding checkJudged
 judged-accepted t passed = passed
 
+-- and today nothing follows them
+pub accepted-judged : (t : Table) → isAccepted (checkTable t) ≡ true → isAccepted (checkJudged t) ≡ true
+unfolding checkJudged
+accepted-judged t passed = passed
+
 pub one-judgeable : (t : Table) (k start : ℕ) → isAccepted (checkOne t k start) ≡ true → Judgeable t k start
 unfolding checkOne checkStart
 one-judgeable t k start passed =

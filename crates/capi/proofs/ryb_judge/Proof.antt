@@ -1,11 +1,11 @@
 -- `ryb_judge` meets its contract. Assumes nothing.
 use mathlib.Core.Path.{_≡_}
-use Prim.Native.Nat.{_≤_}
-use native.Mathlib.Omega.{arith}
 use borrow.Author.Needs.{needs}
+use borrow.Author.Tests.{eq-eqb}
+use Rattle.rules.proofs.Reading.{read-table, read-accepted}
 use Rattle.rules.specs.Operations.{checkFile, reading, judgeAll}
 use Rattle.rules.specs.File.{decode}
-use Rattle.capi.proofs.Judging.{file-refused, start-refused, all-judged, read-table, few-tasks, lent-judged}
+use Rattle.capi.proofs.Judging.{file-refused, start-refused, all-judged, few-tasks, lent-judged}
 use Rattle.capi.proofs.ryb_judge.Statement.{statement}
 use Rattle.capi.proofs.ryb_judge.Tie as tie
 
@@ -13,10 +13,13 @@ passes : (c : tie.Else1) → checkFile (c .before .before .before .before .befor
 unfolding reading
 passes c = rw (c .before .before .read .ensures) at (c .if1 .left)
 
-judged : (c : tie.After-judge-all) → let a = c .before .before .before .before .before .before .before .before .before .before .before .args in
-    c .judge-all .result ≡ judgeAll (decode (a .file .now)) (a .starts .now)
+judge-accepted-requires : tie.Need-judge-accepted-requires
+judge-accepted-requires c κs = let file = c .before .before in rw (file .before .before .read .ensures) (read-accepted _ (eq-eqb _ _ (passes file)))
+
+judged : (c : tie.After-judge-accepted) → let a = c .before .before .before .before .before .before .before .before .before .before .before .args in
+    c .judge-accepted .result ≡ judgeAll (decode (a .file .now)) (a .starts .now)
 judged c =
-    rw (c .judge-all .ensures, c .before .all-starts .ensures, c .before .before .before .before .before .read .ensures)
+    rw (c .judge-accepted .ensures, c .before .all-starts .ensures, c .before .before .before .before .before .read .ensures)
     (lent-judged _ (passes (c .before .before .before)) _)
 
 returns : tie.Need-returns
@@ -32,7 +35,7 @@ few : tie.Need-store-answers-requires
 unfolding decode
 few c κs =
     let file = c .before .before .before .before .before .before .before .before .before .before in
-    rw (file .before .before .read .ensures, read-table _ (passes file)) (few-tasks _ (passes file))
+    rw (file .before .before .read .ensures, read-table _ (eq-eqb _ _ (passes file))) (few-tasks _ (passes file))
 
 returns-3 : tie.Need-returns-3
 unfolding decode
@@ -42,7 +45,7 @@ returns-3 c =
     let s = starts .before .before in
     let file = s .before .before .before in
     all-judged _ _ (passes file) (rw (judged s) at (starts .if2 .left))
-    (rw (judged s, file .before .before .read .ensures, read-table _ (passes file)) at (stored .store-answers .ensures))
+    (rw (judged s, file .before .before .read .ensures, read-table _ (eq-eqb _ _ (passes file))) at (stored .store-answers .ensures))
 
 pub ryb-judge-spec : {M : Type 1} → statement M
 ryb-judge-spec =
@@ -52,7 +55,7 @@ ryb-judge-spec =
     (λ c κs. search needs)
     returns
     (λ c κs. search needs)
-    (λ c κs. search needs)
+    judge-accepted-requires
     (λ c κs. search needs)
     returns-2
     (λ c. search needs)

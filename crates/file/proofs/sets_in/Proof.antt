@@ -1,6 +1,5 @@
 -- The sets of a file's cores. Assumes nothing.
 use Prim.Native.Nat.{_+_}
-use mathlib.Core.Path.{_∙_}
 use native.Mathlib.Omega.{arith}
 use borrow.Author.Needs.{needs}
 use Rattle.rules.specs.File.{setsAt, formIn, coresIn, tasksIn}

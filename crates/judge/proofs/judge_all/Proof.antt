@@ -1,6 +1,7 @@
 -- The judgement of all tasks: the checks before it, then 13, 14 or the answers. Assumes nothing.
 use borrow.Author.Needs.{needs}
 use mathlib.Core.Path.{_∙_, ap}
+use Rattle.rules.proofs.Starts.{judged-accepted}
 use Rattle.rounds.specs.Numbered.{noneJudged}
 use Rattle.judge.proofs.Links.{passes, refuses, all-table}
 use Rattle.judge.proofs.judge_all.Statement.{statement}
@@ -15,5 +16,5 @@ returns c =
 pub judge-all-spec : {M : Type 1} → statement M
 judge-all-spec =
     tie.close
-    (tie.spec (λ c κs. search needs) (λ c κs. search needs) returns (λ c κs. passes (c .before .before .gate .ensures) (c .if1 .left))
-    (λ c. c .judge-checked .ensures))
+    (tie.spec (λ c κs. search needs) (λ c κs. search needs) returns (λ c κs. judged-accepted _ (passes (c .before .before .gate .ensures) (c .if1 .left)))
+    (λ c. c .judge-accepted .ensures))

@@ -1,7 +1,7 @@
 -- `list` meets its contract: what reading gives is what the listing is made of. Assumes nothing.
 use native.Mathlib.Omega.{arith}
 use borrow.Author.Needs.{needs}
-use Rattle.listing.proofs.Listed.{listed-refused, listed-table}
+use Rattle.listing.proofs.Listed.{listed-refused, table-accepted, listed-table}
 use Rattle.listing.proofs.list.Statement.{statement}
 use Rattle.listing.proofs.list.Tie as tie
 
@@ -11,6 +11,9 @@ returns c =
     let test = line .before .before in
     let listed = listed-refused _ _ (test .before .before .read .ensures) (test .if1 .taken) in
     (rw listed (line .refused .ensures .0), rw listed (omega (arith, line .refused .ensures .1)))
+
+list-table-requires : tie.Need-list-table-requires
+list-table-requires c κs = let test = c .before in table-accepted _ _ (test .before .before .read .ensures) (test .if1 .left)
 
 returns-2 : tie.Need-returns-2
 returns-2 c =
@@ -27,6 +30,6 @@ list-spec =
     (λ c κs. search needs)
     (λ c. search needs)
     returns
-    (λ c κs. search needs)
+    list-table-requires
     (λ c. search needs)
     returns-2)

@@ -1,7 +1,7 @@
 -- `spell` meets its contract. The invariant: what is left of the number, spelled before the digits that stand, is the whole number spelled, and there is room
 -- for it. Assumes nothing.
 use mathlib.Core.Path.{_≡_, _∙_, sym}
-use Prim.Native.Nat.{suc, _-_, _^_, _≤_, _<_}
+use Prim.Native.Nat.{suc, _^_, _≤_, _<_}
 use native.Mathlib.Omega.{arith}
 use borrow.Author.Needs.{needs}
 use lib.ListN.{length, length-set}
