@@ -1,20 +1,17 @@
 -- A table and the same table cleared meet the same refusals. Assumes nothing.
 use mathlib.Core.Path.{_≡_, ap, _∙_}
-use mathlib.Core.Bool.{not, _||_}
 use mathlib.Core.List.{List}
-use Prim.Native.Nat.{ℕ, _-_, _^_, _≤_, _<_}
+use Prim.Native.Nat.{ℕ, _-_, _≤_, _<_}
 use native.Mathlib.Omega.{arith}
-use lib.Dec.{ltb, eqb}
 use lib.ListN.{length, take, replicate, List·getD-append}
 use lib.Seq.{length-take-le, getD-take}
 use Rattle.rules.specs.declared.Refusal.{Refusal}
-use Rattle.rules.specs.declared.Task.{Task}
 use Rattle.rules.specs.declared.Table.{Table}
-use Rattle.laws.specs.Idioms.{entry, filled, within}
+use Rattle.laws.specs.Idioms.{entry, filled}
 use Rattle.rules.specs.Tasks.{noTask, taskOf}
 use Rattle.rules.specs.Cores.{setOf}
 use Rattle.rules.specs.Chain.{_orElse_, given}
-use Rattle.rules.specs.Refusals.{countsFault, checkTiming, setFault, coreFault, timeFault, requestFault, checkBoard, checkTasks, checkTable}
+use Rattle.rules.specs.Refusals.{countsFault, checkTiming, setFault, coreFault, timeFault, requestFault, boardRefusal, tasksRefusal, checkBoard, checkTasks, checkTable}
 use Rattle.rules.proofs.Accepted.{sound}
 use Rattle.rules.proofs.First.{first-same}
 use Rattle.claims.specs.Files.{AcceptedTable, Shape, cleared}
@@ -35,22 +32,16 @@ module _ (t : Table) (shape : Shape t) (passed : AcceptedTable t) where
   unfolding cleared
   task-kept k = kept 32 (t .tasks) noTask _ (t .task) k (omega (arith, sound t passed .tasks-in, shape .tasks))
 
-  set-fault-kept : (p : ℕ) → 1 ≤ p → p ≤ t .cores → setFault (cleared t) p ≡ setFault t p
-  unfolding setFault cleared
-  set-fault-kept p low high = ap (λ (x : ℕ). eqb x 0 || not (ltb x (2 ^ t .partitions))) (set-kept p low high)
-
-  core-fault-kept : (k : ℕ) → 1 ≤ k → k ≤ t .tasks → coreFault (cleared t) (taskOf (cleared t) k) ≡ coreFault t (taskOf t k)
-  unfolding coreFault cleared
-  core-fault-kept k low high = ap (λ (i : Task). not (within 1 (t .cores) (i .core))) (task-kept k low high)
-
   board-same : checkBoard (cleared t) ≡ checkBoard t
-  unfolding checkBoard countsFault cleared
-  board-same = ap (λ (r : Refusal). given 5 0 (countsFault t) orElse checkTiming (t .timing) orElse r) (first-same 8 (t .cores) set-fault-kept)
+  unfolding checkBoard boardRefusal cleared
+  board-same =
+      ap (λ (r : Refusal). given 5 0 (countsFault (t .cores) (t .partitions) (t .tasks) (t .fourth)) orElse checkTiming (t .timing) orElse r)
+      (first-same 8 (t .cores) (λ p low high. ap (setFault (t .partitions)) (set-kept p low high)))
 
   tasks-same : checkTasks (cleared t) ≡ checkTasks t
-  unfolding checkTasks cleared
+  unfolding checkTasks tasksRefusal cleared
   tasks-same = λ j.
-      first-same 9 (t .tasks) core-fault-kept j
+      first-same 9 (t .tasks) (λ k low high. ap (coreFault (t .cores)) (task-kept k low high)) j
       orElse first-same 10 (t .tasks) (λ k low high. ap timeFault (task-kept k low high)) j
       orElse first-same 11 (t .tasks) (λ k low high. ap requestFault (task-kept k low high)) j
 

@@ -29,11 +29,15 @@ fails false h = refl
 -- ---- an accepted file
 
 module _ (s : List ℕ) (ok : AcceptedFile s) where
+  checked : isAccepted (checkFile s) ≡ true
+  unfolding reading
+  checked = ok
+
   came : Whole s
-  came = whole s (file-whole s ok)
+  came = whole s (file-whole s checked)
 
   read-written-back : Bytes s → encode (reading s .table) ≡ s
-  read-written-back b = rw (read-table s ok) (written-again b came)
+  read-written-back b = rw (read-table s checked) (written-again b came)
 
 pub damage : Damage
 damage = record {
@@ -74,7 +78,7 @@ return = record {
   read-written = written-read-back;
   written-read = λ s b ok. read-written-back s ok b;
   unused-zero = λ s. read-either (λ t. cleared t ≡ t) s (λ ok. already-cleared s) empty-cleared;
-  shape-read = λ s. read-either Shape s (λ ok. shape-of-read s (decoded-accepted s ok)) empty-shape;
+  shape-read = λ s. read-either Shape s (λ ok. shape-of-read s (decoded-accepted s (checked s ok))) empty-shape;
 }
 
 -- ---- writing into a lent buffer
@@ -108,7 +112,7 @@ return-in-place = record {
   read-written = λ t out shape passed room. rw (written-part t out passed room) (written-read-back t shape passed);
   written-read = λ s out b ok room.
       let back = read-written-back s ok b in
-      out-written (reading s .table) out (read-accepted s ok) (rw back room) ∙ ap (λ (l : List ℕ). l ++ drop (length l) out) back;
+      out-written (reading s .table) out (read-accepted s (checked s ok)) (rw back room) ∙ ap (λ (l : List ℕ). l ++ drop (length l) out) back;
   room = λ t shape passed. file-small shape passed;
   rest-stays = rest-kept;
 }

@@ -1,6 +1,6 @@
 -- The table that is read from a whole file is written as that file. Assumes nothing.
 use mathlib.Core.Path.{_≡_, refl, sym}
-use mathlib.Core.List.{List, [], _∷_}
+use mathlib.Core.List.{List, [], _∷_, map}
 use Prim.Native.Nat.{ℕ, _+_, _*_, _-_, _≤_}
 use native.Mathlib.Omega.{arith}
 use lib.ListN.{length, take}
@@ -50,8 +50,8 @@ module _ (s : List ℕ) where
   unfolding decode setIn taskIn from
   shape-of-read passed = record {
     figures = refl;
-    sets = filled-length 8 0 _ (rw (length-map-from setIn (coresIn s) 0) (sound (decode s) passed .cores-in .high));
-    tasks = filled-length 32 noTask _ (rw (length-map-from taskIn (tasksIn s) 1) (sound (decode s) passed .tasks-in .high));
+    sets = filled-length 8 0 (map setIn (from 0 (coresIn s))) (rw (length-map-from setIn (coresIn s) 0) (sound (decode s) passed .cores-in .high));
+    tasks = filled-length 32 noTask (map taskIn (from 1 (tasksIn s))) (rw (length-map-from taskIn (tasksIn s) 1) (sound (decode s) passed .tasks-in .high));
   }
 
 -- ---- its bytes

@@ -4,9 +4,10 @@ use mathlib.Core.Bool.{Bool, true}
 use Prim.Native.Nat.{ℕ, suc}
 use Rattle.rules.specs.declared.Refusal.{Refusal}
 use Rattle.rules.specs.declared.Table.{Table}
+use Rattle.rules.specs.Cores.{setOf}
 use Rattle.rules.specs.Tasks.{taskOf}
 use Rattle.rules.specs.Chain.{accepted, isAccepted, _orElse_, given, first}
-use Rattle.rules.specs.Refusals.{countsFault, figureFault, relationFault, checkTiming, setFault, coreFault, timeFault, requestFault, checkBoard, checkTasks, checkTable}
+use Rattle.rules.specs.Refusals.{countsFault, figureFault, relationFault, checkTiming, setFault, coreFault, timeFault, requestFault, boardRefusal, tasksRefusal, checkBoard, checkTasks, checkTable}
 use Rattle.rules.proofs.Chain.{both-accepted, second-decides, no-fault}
 use Rattle.rules.proofs.First.{none-first, first-none}
 
@@ -29,14 +30,16 @@ module _ (t : Table) where
   timing-plain = both-plain _ _ (first-plain 5 (figureFault (t .timing)) 15) (first-plain 6 (relationFault (t .timing)) 5)
 
   board-plain : Plain (checkBoard t)
-  unfolding checkBoard
-  board-plain = both-plain _ _ (both-plain _ _ (given-plain 4 0 (countsFault t)) timing-plain) (first-plain 7 (setFault t) (t .cores))
+  unfolding checkBoard boardRefusal
+  board-plain =
+      both-plain _ _ (both-plain _ _ (given-plain 4 0 (countsFault (t .cores) (t .partitions) (t .tasks) (t .fourth))) timing-plain)
+      (first-plain 7 (λ p. setFault (t .partitions) (setOf t p)) (t .cores))
 
   tasks-plain : Plain (checkTasks t)
-  unfolding checkTasks
+  unfolding checkTasks tasksRefusal
   tasks-plain =
       both-plain _ _
-      (both-plain _ _ (first-plain 8 (λ k. coreFault t (taskOf t k)) (t .tasks)) (first-plain 9 (λ k. timeFault (taskOf t k)) (t .tasks)))
+      (both-plain _ _ (first-plain 8 (λ k. coreFault (t .cores) (taskOf t k)) (t .tasks)) (first-plain 9 (λ k. timeFault (taskOf t k)) (t .tasks)))
       (first-plain 10 (λ k. requestFault (taskOf t k)) (t .tasks))
 
   pub table-plain : Plain (checkTable t)

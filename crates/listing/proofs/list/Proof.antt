@@ -13,7 +13,7 @@ returns c =
     (rw listed (line .refused .ensures .0), rw listed (omega (arith, line .refused .ensures .1)))
 
 list-table-requires : tie.Need-list-table-requires
-list-table-requires c κs = let test = c .before in table-accepted _ _ (test .before .before .read .ensures) (test .if1 .left)
+list-table-requires c κs = let test = c .before .before in table-accepted _ _ (test .before .before .read .ensures) (test .if1 .left)
 
 returns-2 : tie.Need-returns-2
 returns-2 c =
