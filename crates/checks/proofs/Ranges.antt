@@ -1,28 +1,38 @@
--- What the rule's list of ranges says of a figure, by the lists of lowest and highest. Assumes nothing.
-use Prim.Native.Nat.{ℕ, _-_}
+-- The table of limits is the rule's list, so what it says of a figure is what the rule says. Assumes nothing.
+use Prim.Native.Nat.{ℕ, _+_, _-_}
 use mathlib.Core.Path.{_≡_, refl}
-use mathlib.Core.Bool.{Bool, true, false, not, _&&_, _||_}
-use mathlib.Core.List.{map}
+use mathlib.Core.Bool.{Bool, true, false, _&&_}
+use mathlib.Core.List.{List, map}
+use native.Mathlib.Omega.{arith}
 use lib.Dec.{eqb}
 use lib.ListN.{getD, List·getD-map}
 use borrow.Author.Tests.{eqb-true}
-use Rattle.laws.specs.Idioms.{within}
 use Rattle.rules.specs.Timing.{Row, BL, ranges}
 use Rattle.rules.specs.Refusals.{figureFault}
+use Rattle.checks.specs.declared.Limits.{Limits}
+use Rattle.checks.specs.Ranges.{notBurst, outOfRange}
 
-abbrev notBurst : ℕ → Bool
-notBurst x = not (eqb x 4 || eqb x 8 || eqb x 16)
+abbrev pair : Limits → ℕ × ℕ
+pair l = (l .0, l .1)
 
-module _ (w : Row) (k : ℕ) where
-  burst-at : eqb k 6 && notBurst (BL w) ≡ eqb k 6 && notBurst (getD w (k - 1) 0)
-  burst-at = go (eqb k 6) refl
+abbrev none : Limits
+none = record { 0 = 0; 1 = 0 }
+
+pub record AreRanges (table : List Limits) : Type 0 where
+  pub same : map pair table ≡ ranges
+
+module _ {table : List Limits} (r : AreRanges table) (w : Row) (i : ℕ) where
+  range-at : getD ranges i (0, 0) ≡ pair (getD table i none)
+  range-at = rw (← r .same) (List·getD-map pair table i none)
+
+  burst-at : eqb (i + 1) 6 && notBurst (BL w) ≡ eqb (i + 1) 6 && notBurst (getD w i 0)
+  burst-at = go (eqb (i + 1) 6) refl
     where
-      go : (b : Bool) → eqb k 6 ≡ b → b && notBurst (BL w) ≡ b && notBurst (getD w (k - 1) 0)
-      go true e = rw (eqb-true k 6 e)
+      go : (b : Bool) → eqb (i + 1) 6 ≡ b → b && notBurst (BL w) ≡ b && notBurst (getD w i 0)
+      go true e = let five : i ≡ 5 = omega (arith, eqb-true (i + 1) 6 e) in rw five
       go false e = refl
 
-  pub fault-is : {x : ℕ} → x ≡ getD w (k - 1) 0
-      → figureFault w k
-      ≡ not (within (getD (map (λ r. r .0) ranges) (k - 1) 0) (getD (map (λ r. r .1) ranges) (k - 1) 0) x) || (eqb k 6 && notBurst x)
+  -- the table's rule, carried to the entry at i
+  pub fault-at : figureFault w (i + 1) ≡ outOfRange (getD table i none .0) (getD table i none .1) (i + 1) (getD w i 0)
   unfolding figureFault
-  fault-is e = rw (List·getD-map (λ (r : ℕ × ℕ). r .0) ranges (k - 1) (0, 0), List·getD-map (λ (r : ℕ × ℕ). r .1) ranges (k - 1) (0, 0), burst-at, e)
+  fault-at = let e : i + 1 - 1 ≡ i = omega arith in rw (e, range-at, burst-at)

@@ -1,13 +1,13 @@
 // Checks 5 to 11 of a table, in their order: 5 to 8 of its board, 9 to 11 of its tasks.
 ghost use mathlib.Core.Path.{_≡_};
-ghost use mathlib.Core.Bool.{not, _||_};
+ghost use mathlib.Core.Bool.{not};
 ghost use Prim.Native.Nat.{_%_, _≤_};
-ghost use lib.Dec.{eqb};
 ghost use Rattle.laws.specs.Idioms.{entry, within};
 ghost use Rattle.rules.specs.Tasks.{noTask};
 ghost use Rattle.rules.specs.Chain.{first};
 ghost use Rattle.rules.specs.Refusals.{countsFault, figureFault, relationFault, setFault, timeFault};
 ghost use Rattle.rules.specs.Refusals.{checkTiming, boardRefusal, checkBoard, checkTasks, checkTable};
+ghost use Rattle.checks.specs.Ranges.{notBurst, outOfRange};
 ghost use Rattle.checks.specs.Faults.{earliest, noFaults, withTask, toldBy};
 use delays::figure;
 use rules::Picos;
@@ -16,10 +16,27 @@ use rules::Refusal;
 use rules::Table;
 use rules::Task;
 
-// "The ranges stand as one table of lowest and highest; BL has 4 and 16 there"
-const LOWEST: [u64; 15] = [1, 1, 1, 1, 1, 4, 1, 1, 1, 1, 1, 1, 0, 64, 0];
+// The lowest and highest of a figure.
+pub struct Limits(pub u16, pub u16);
 
-const HIGHEST: [u64; 15] = [5000, 127, 127, 127, 127, 16, 127, 127, 127, 127, 127, 127, 127, 2048, 65535];
+// "The ranges stand as one table of lowest and highest; BL has 4 and 16 there"
+const LIMITS: [Limits; 15] = [
+    Limits(1, 5000),
+    Limits(1, 127),
+    Limits(1, 127),
+    Limits(1, 127),
+    Limits(1, 127),
+    Limits(4, 16),
+    Limits(1, 127),
+    Limits(1, 127),
+    Limits(1, 127),
+    Limits(1, 127),
+    Limits(1, 127),
+    Limits(1, 127),
+    Limits(0, 127),
+    Limits(64, 2048),
+    Limits(0, 65535),
+];
 
 fn outside(lowest: u64, highest: u64, x: u64) -> bool
     ensures { λ r. ⌜ r ≡ not (within lowest highest x) ⌝ }
@@ -53,8 +70,8 @@ fn counts_fault(cores: u8, partitions: u8, tasks: u8, fourth: u8) -> bool
 }
 
 // "of the values between only 8 passes"
-fn not_burst(x: u64) -> bool
-    ensures { λ r. ⌜ r ≡ not (eqb x 4 || eqb x 8 || eqb x 16) ⌝ }
+fn not_burst(x: u16) -> bool
+    ensures { λ r. ⌜ r ≡ notBurst x ⌝ }
 {
     if x == 4 {
         return false;
@@ -65,16 +82,14 @@ fn not_burst(x: u64) -> bool
     x != 16
 }
 
-// Figure 6 is BL.
-fn figure_fault(row: [u16; 15], k: u8) -> bool
-    requires { ⌜ (1 ≤ k) × (k ≤ 15) ⌝ }
-    ensures { λ r. ⌜ r ≡ figureFault row k ⌝ }
+// Is x, figure k, outside its range? Figure 6 is BL.
+fn is_outside(limits: Limits, k: usize, x: u16) -> bool
+    ensures { λ r. ⌜ r ≡ outOfRange (limits .0) (limits .1) k x ⌝ }
 {
-    let lowest = LOWEST;
-    let highest = HIGHEST;
-    let at = (k - 1) as usize;
-    let x = figure(row, at);
-    if outside(lowest[at], highest[at], x) {
+    if x < limits.0 {
+        return true;
+    }
+    if limits.1 < x {
         return true;
     }
     if k == 6 { not_burst(x) } else { false }
@@ -111,10 +126,11 @@ fn relation_fault(row: [u16; 15], k: u8) -> bool
 fn check_ranges(row: [u16; 15]) -> Refusal
     ensures { λ r. ⌜ r ≡ first 6 (figureFault row) 15 ⌝ }
 {
-    let mut i: u8 = 0;
+    let table = LIMITS;
+    let mut i: usize = 0;
     while i < 15 {
-        if figure_fault(row, i + 1) {
-            return refused(6, i + 1);
+        if is_outside(table[i], i + 1, row[i]) {
+            return refused(6, (i + 1) as u8);
         }
         i += 1;
     }
