@@ -55,7 +55,7 @@ module _ (test : ℕ → Bool) where
       let left : n - (q - 1) ≡ suc (n - q) = omega arith in
       rw (a, left, maskFrom) (omega arith)
 
-  pub mask-below : (a n : ℕ) → maskFrom test a n < 2 ^ n
+  mask-below : (a n : ℕ) → maskFrom test a n < 2 ^ n
   unfolding maskFrom
   mask-below a zero = omega arith
   mask-below a (suc n) = rw (pow-suc 2 n) (below (test a) _ _ (mask-below (a + 1) n))

@@ -75,7 +75,7 @@ module _ (t : Table) (p q : ℕ) where
   bit-of : (test : ℕ → Bool) → 1 ≤ q → q ≤ t .cores → mask test (t .cores) / 2 ^ (q - 1) % 2 ≡ asBit (test q)
   bit-of test low high = let e : 1 + (q - 1) ≡ q = omega arith in rw e at (mask-bit test (q - 1) 1 (t .cores) (omega arith))
 
-  pub weight-by-bits : 1 ≤ q → q ≤ t .cores
+  weight-by-bits : 1 ≤ q → q ≤ t .cores
       → weight t p q
       ≡ (mask (isFar t p) (t .cores) / 2 ^ (q - 1) % 2 + ones (bitAnd (mask (isNear t p) (t .cores)) (mask (isFar t q) (t .cores)))) * crossing t .0
       + mask (isNear t p) (t .cores) / 2 ^ (q - 1) % 2 * conflict t .0
@@ -86,7 +86,7 @@ module _ (t : Table) (p q : ℕ) where
 -- ---- the same of a table that shows these bits and figures
 
 module _ {p nears : ℕ} {fars : List ℕ} {f : Figures} {t : Table} (s : Shows p nears fars f t) where
-  pub fars-at : (q : ℕ) → 1 ≤ q → q ≤ t .cores → entry 0 fars q ≡ mask (isFar t q) (t .cores)
+  fars-at : (q : ℕ) → 1 ≤ q → q ≤ t .cores → entry 0 fars q ≡ mask (isFar t q) (t .cores)
   unfolding farMasks
   fars-at q low high = rw (s .far-are) (place-of 0 (λ r. mask (isFar t r) (t .cores)) 8 (t .cores) q low high)
 

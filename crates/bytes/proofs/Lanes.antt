@@ -43,7 +43,7 @@ module _ {n w : ℕ} (l : Split n w) where
   pub fits : n < 65536 → w < 18446744073709551616
   fits h = omega arith
 
-  pub out : n < 65536 → (addedOf w ≡ l .a + l .b + l .c + l .d) × (weighedOf w ≡ l .b + 2 * l .c + 3 * l .d)
+  out : n < 65536 → (addedOf w ≡ l .a + l .b + l .c + l .d) × (weighedOf w ≡ l .b + 2 * l .c + 3 * l .d)
   out h = rw (l .is) (lanes-out (l .a) (l .b) (l .c) (l .d) (omega arith) (omega arith) (omega arith) (omega arith))
 
 -- so both are taken out of two words' lanes one word after the other

@@ -11,10 +11,10 @@ ghost use Rattle.checks.specs.Ranges.{notBurst, outOfRange};
 ghost use Rattle.checks.specs.Faults.{earliest, noFaults, withTask, toldBy};
 use delays::figure;
 use rules::Picos;
-use rules::refused;
 use rules::Refusal;
 use rules::Table;
 use rules::Task;
+use rules::refused;
 
 // The lowest and highest of a figure.
 pub struct Limits(pub u16, pub u16);
@@ -114,7 +114,8 @@ fn relation_fault(row: [u16; 15], k: u8) -> bool
         return delays::turn(row) < figure(row, delays::CL);
     }
     if k == 3 {
-        return figure(row, delays::CL) + figure(row, delays::BL) / 2 + 2 <= figure(row, delays::TRTP);
+        return figure(row, delays::CL) + figure(row, delays::BL) / 2 + 2
+            <= figure(row, delays::TRTP);
     }
     if k == 4 {
         return figure(row, delays::TRCD) + delays::hit(row).0 <= figure(row, delays::TRAS);

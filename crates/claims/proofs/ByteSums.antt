@@ -13,7 +13,7 @@ sum-set [] i b h = absurd (omega arith)
 sum-set (x ∷ l) zero b h = omega arith
 sum-set (x ∷ l) (suc i) b h = omega (arith, sum-set l i b (omega arith))
 
-pub sum-high : {l : List ℕ} → Bytes l → sumOf l ≤ 255 * length l
+sum-high : {l : List ℕ} → Bytes l → sumOf l ≤ 255 * length l
 sum-high none = omega arith
 sum-high (more h r) = omega (arith, sum-high r)
 

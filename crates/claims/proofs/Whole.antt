@@ -87,7 +87,7 @@ unfolding trailer bytes
 trailer-length b = refl
 
 -- bytes that are followed by their trailer
-abbrev pub trailed : List ℕ → List ℕ
+abbrev trailed : List ℕ → List ℕ
 trailed b = b ++ trailer b
 
 -- they came whole, where the header tells their length and the sums fit

@@ -46,7 +46,7 @@ terms-equation : (m : Terms) → 1 ≤ lowestOf (m .own) → Equation (timeOf m)
 unfolding timeOf lowestOf
 terms-equation m low = record { rises = λ t u h. time-rises t u h m; above = λ t h. omega arith; some = low }
 
-pub time-is : (m : Terms) (t : ℕ) {a : Applied} → a ≡ applied m t → a .time ≡ timeOf m t
+time-is : (m : Terms) (t : ℕ) {a : Applied} → a ≡ applied m t → a .time ≡ timeOf m t
 unfolding applied
 time-is m t e = ap (λ (a : Applied). a .time) e
 

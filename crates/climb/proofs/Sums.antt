@@ -52,7 +52,7 @@ module _ {f : ℕ → ℕ} {highest a : ℕ} where
       }
 
 -- what one place asks for
-pub released-high : {highest a e carried t i : ℕ} {periods costs : List ℕ} → Slots highest a e periods costs → t ≤ 10 ^ 12 → carried ≤ 1 → a ≤ i → i < e
+released-high : {highest a e carried t i : ℕ} {periods costs : List ℕ} → Slots highest a e periods costs → t ≤ 10 ^ 12 → carried ≤ 1 → a ≤ i → i < e
     → released carried t periods costs i ≤ 10001 * highest
 unfolding released
 released-high {t = t} {i} {periods} s fits few low here =

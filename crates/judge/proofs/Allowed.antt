@@ -65,7 +65,7 @@ module _ (t : Table) (passed : isAccepted (checkTable t) ≡ true) where
   answers-long start = filled-length 32 (misses 0) (map (λ k. judge t k (start k)) (upTo (t .tasks))) (rw (length-map-from (λ k. judge t k (start k)) (t .tasks) 1) (sound t passed .tasks-in .high))
 
   -- the start of task number k
-  pub older-start : (k : ℕ) → 1 ≤ k → k ≤ t .tasks → entry 0 (olderStarts t) k ≡ olderBound t k
+  older-start : (k : ℕ) → 1 ≤ k → k ≤ t .tasks → entry 0 (olderStarts t) k ≡ olderBound t k
   unfolding olderStarts answersFrom olderBound
   older-start k low high =
       List·getD-map startOf (answersFrom t fresh) (k - 1) (misses 0)

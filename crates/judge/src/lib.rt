@@ -14,12 +14,12 @@ ghost use Rattle.judge.specs.Carried.{startOf, olderStarts, AllAllowed, 
 use rules::AllJudged;
 use rules::Answer;
 use rules::Judged;
-use rules::refused;
 use rules::Refusal;
 use rules::Rejudged;
 use rules::Table;
 use rules::Task;
 use rules::Verdict;
+use rules::refused;
 
 // The same task with C and H as they were or raised, and T as it was or shortened.
 fn worse_task(i: Task, j: Task) -> bool

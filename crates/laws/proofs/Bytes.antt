@@ -18,16 +18,6 @@ unfolding bytes
 bytes-are zero n = none
 bytes-are (suc k) n = more {b = n % 256} (omega arith) (bytes-are k (n / 256))
 
-pub number-cons : (b : ℕ) (l : List ℕ) → number (b ∷ l) ≡ b + 256 * number l
-unfolding number
-number-cons b l = refl
-
--- k bytes give a number below 256 ^ k
-pub number-below : {l : List ℕ} → Bytes l → number l < 256 ^ length l
-unfolding number
-number-below none = omega arith
-number-below (more {b = b} {l = l} h r) = rw (pow-suc 256 (length l)) (omega (arith, number-below r))
-
 pub number-bytes : (k n : ℕ) → n < 256 ^ k → number (bytes k n) ≡ n
 unfolding number bytes
 number-bytes zero n h = omega arith

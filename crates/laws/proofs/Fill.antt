@@ -3,16 +3,12 @@ use mathlib.Core.Path.{_≡_, sym}
 use mathlib.Core.List.{List, [], _∷_, _++_, append-assoc}
 use Prim.Native.Nat.{ℕ, suc, _-_, _<_}
 use native.Mathlib.Omega.{arith}
-use native.Mathlib.Nat.{sub-zero}
 use native.Mathlib.Numerals.{add-one}
 use lib.ListN.{length, length-append, replicate, set}
 use lib.Seq.{set-at}
 use Rattle.laws.specs.Idioms.{filled}
 
 module _ {A : Type 0} (n : ℕ) (d : A) where
-  pub fill-none : filled n d [] ≡ replicate n d
-  fill-none = rw sub-zero
-
   pub fill-step : (l : List A) (i : ℕ) (x : A) → length l ≡ i → i < n → set (filled n d l) i x ≡ filled n d (l ++ (x ∷ []))
   fill-step l i x e h =
       let more : length (l ++ (x ∷ [])) ≡ suc i = length-snoc in

@@ -3,7 +3,7 @@ use Prim.Native.Nat.{ℕ, zero, suc, _+_, _-_, _/_, _≤_, zero-le, suc-le-suc}
 use native.Mathlib.Nat.{le-trans, div-zero, le-div-iff-mul-le, div-mul-le-self}
 use native.Mathlib.Omega.{arith}
 
-pub div-rises : {a b : ℕ} (k : ℕ) → a ≤ b → a / k ≤ b / k
+div-rises : {a b : ℕ} (k : ℕ) → a ≤ b → a / k ≤ b / k
 div-rises {a} {b} zero h = omega (arith, div-zero a, div-zero b)
 div-rises {a} (suc k) h = le-div-iff-mul-le (suc-le-suc zero-le) .1 (le-trans (div-mul-le-self a (suc k)) h)
 

@@ -37,7 +37,7 @@ module _ (s : List ℕ) (cores : coresIn s < 256) (tasks : tasksIn s < 256) (lon
   refused-so = rw wrong-length
 
 module _ (s : List ℕ) (bytes : Bytes s) (long : 7952 ≤ length s) where
-  pub front-reads : reading s ≡ reading (take 7952 s)
+  front-reads : reading s ≡ reading (take 7952 s)
   front-reads =
       let cores : coresIn (take 7952 s) < 256 = rw (getD-take 7952 s 0 0 (omega arith)) (byte-at bytes 0) in
       let tasks : tasksIn (take 7952 s) < 256 = rw (getD-take 7952 s 2 0 (omega arith)) (byte-at bytes 2) in

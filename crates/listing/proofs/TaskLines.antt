@@ -18,7 +18,7 @@ use Rattle.laws.proofs.Sums.{upTo-next}
 use Rattle.listing.specs.Lines.{rows, last, tableText}
 
 -- the end of a task's line: verdict, bound, deciding delay and rounds
-abbrev pub tail : Verdict → ℕ → List ℕ
+abbrev tail : Verdict → ℕ → List ℕ
 tail v rounds = line (verdictWords v ++ decimal rounds ∷ [])
 
 after-core : (core rounds : ℕ) (v : Verdict) → line (decimal core ∷ (verdictWords v ++ decimal rounds ∷ [])) ≡ decimal core ++ text " " ++ tail v rounds

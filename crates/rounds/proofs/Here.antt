@@ -1,8 +1,7 @@
 -- The terms of the task in place i, from a table's groups: its higher tasks are the first of its core's. Assumes nothing.
-use mathlib.Core.Path.{_≡_, refl, sym, ap, _∙_}
-use mathlib.Core.List.{List, [], _∷_, _++_, map}
-use Prim.Native.Nat.{ℕ, zero, suc, _+_, _-_, _≤_, _<_}
-use native.Mathlib.Nat.{not-suc-le-zero, le-of-suc-le-suc}
+use mathlib.Core.Path.{_≡_, sym, ap, _∙_}
+use mathlib.Core.List.{List, _++_, map}
+use Prim.Native.Nat.{ℕ, _+_, _-_, _≤_, _<_}
 use native.Mathlib.Omega.{arith}
 use lib.ListN.{length, take, take-append-drop, drop, getD, List·getD-append}
 use lib.Seq.{take-take}
@@ -16,7 +15,7 @@ use Rattle.laws.specs.Idioms.{entry, filled, upTo, those, Within}
 use Rattle.laws.proofs.Sums.{those-append}
 use Rattle.laws.proofs.Runs.{length-map-from}
 use Rattle.laws.proofs.Filled.{filled-length}
-use Rattle.laws.proofs.Places.{place-of}
+use Rattle.laws.proofs.Places.{getD-within, place-of}
 use Rattle.climb.specs.Terms.{Terms, termsOf}
 use Rattle.climb.specs.Run.{Ready, climbed}
 use Rattle.groups.specs.Grouped.{From, Grouped}
@@ -25,11 +24,6 @@ use Rattle.rounds.specs.Numbered.{climbedFor, allCosts, ownOf}
 use Rattle.rounds.proofs.Stands.{Above, termsFor, climbed-same, ready-for}
 
 -- the costs of a core among those of all, whatever stands for a place beyond them
-getD-within : {A : Type 0} (l : List A) (i : ℕ) (d e : A) → i < length l → getD l i d ≡ getD l i e
-getD-within [] i d e h = absurd (not-suc-le-zero h)
-getD-within (x ∷ l) zero d e h = refl
-getD-within (x ∷ l) (suc i) d e h = getD-within l i d e (le-of-suc-le-suc h)
-
 pub cost-at : (t : Table) → Sound t → {all : List CoreCosts} → all ≡ allCosts t → {p : ℕ} → Within 1 (t .cores) p → (d : CoreCosts) → entry d all p ≡ costsOf t p
 unfolding allCosts
 cost-at t s e {p} there d =

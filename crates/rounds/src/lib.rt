@@ -14,11 +14,11 @@ use climb::Climbed;
 use climb::Own;
 use rules::AllJudged;
 use rules::Answer;
-use rules::refused;
 use rules::Refusal;
 use rules::Table;
 use rules::Task;
 use rules::Verdict;
+use rules::refused;
 
 // A task's own figures, with its core's costs, the place of its core's first task and its own.
 fn own_of(task: Task, cost: CoreCosts, cores: u8, first: usize, place: usize) -> Own

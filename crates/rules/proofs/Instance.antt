@@ -54,7 +54,7 @@ module _ (t : Table) (accepted : isAccepted (checkTable t) ≡ true) (k : ℕ) (
   lowest-fits = own-sound .C-in .high
 
 -- the limit on the rounds, in the document's words
-pub renewals-of : (d : ℕ) (js : List Task) → renewals d (map releases js) ≡ sumOver js (λ j. releases j d - 1)
+renewals-of : (d : ℕ) (js : List Task) → renewals d (map releases js) ≡ sumOver js (λ j. releases j d - 1)
 unfolding renewals
 renewals-of d [] = refl
 renewals-of d (j ∷ js) = omega (arith, renewals-of d js)

@@ -44,7 +44,7 @@ bound-carried : (by : ℕ → Delay) (v : outcome.Verdict) → boundOf (withDela
 bound-carried by (outcome.holds R) = refl
 bound-carried by outcome.misses = refl
 
-pub older-bound : (t : Table) (k : ℕ) → olderBound t k ≡ carried (roundsOf t k 0 .verdict)
+older-bound : (t : Table) (k : ℕ) → olderBound t k ≡ carried (roundsOf t k 0 .verdict)
 unfolding olderBound judge
 older-bound t k = bound-carried (decider t k) (roundsOf t k 0 .verdict)
 

@@ -20,7 +20,7 @@ module _ (more n : ℕ) (after : List ℕ) where
   next-digit h = rw (le-ltb n 10 h, digits)
 
 -- any two bounds above n give the same digits
-pub same-digits : (j k n : ℕ) (after : List ℕ) → n < j → n < k → digits j n after ≡ digits k n after
+same-digits : (j k n : ℕ) (after : List ℕ) → n < j → n < k → digits j n after ≡ digits k n after
 same-digits zero k n after p q = absurd (omega arith)
 same-digits (suc j) zero n after p q = absurd (omega arith)
 same-digits (suc j) (suc k) n after p q =

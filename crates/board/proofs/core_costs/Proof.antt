@@ -19,6 +19,4 @@ returns c =
     c .costs .ensures (start f .args .t) refl (record { near-is = b .side .ensures; far-are = b .before .before .far-sides .ensures; figures-are = f .figures-of .ensures })
 
 pub core-costs-spec : {M : Type 1} → statement M
-core-costs-spec =
-    tie.close
-    (tie.spec (λ c. search needs) (λ c κs. search needs) (λ c κs. search needs) (λ c κs. search needs) costs-requires returns)
+core-costs-spec = tie.close (tie.spec (λ c. search needs) (λ c κs. search needs) (λ c κs. search needs) (λ c κs. search needs) costs-requires returns)

@@ -22,14 +22,7 @@ other p q near r s b apart e asked = rw (ne-eqb q p apart, ← e, ← asked) (go
 pub on-side-spec : {M : Type 1} → statement M
 on-side-spec =
     tie.close
-    (tie.spec
-    (λ c. (rw (eq-eqb _ _ (c .if1 .taken)), search needs))
-    (λ c. search needs)
-    (λ c. search needs)
-    (λ c. search needs)
-    (λ c. search needs)
-    (λ c. search needs)
-    (λ c. search needs)
-    (λ c κs. search needs)
+    (tie.spec (λ c. (rw (eq-eqb _ _ (c .if1 .taken)), search needs)) (λ c. search needs) (λ c. search needs) (λ c. search needs) (λ c. search needs)
+    (λ c. search needs) (λ c. search needs) (λ c κs. search needs)
     (λ c. (other _ _ _ _ _ true (c .before .before .before .before .if1 .left) (c .before .shares .ensures) (c .if2 .taken), search needs))
     (λ c. (other _ _ _ _ _ false (c .before .before .before .before .if1 .left) (c .before .shares .ensures) (c .if2 .left), search needs)))

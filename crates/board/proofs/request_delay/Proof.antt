@@ -25,14 +25,6 @@ returns-2 c =
 pub request-delay-spec : {M : Type 1} → statement M
 request-delay-spec =
     tie.close
-    (tie.spec
-    (λ c. λ t highp s sum. RD-none s sum (c .if1 .taken))
-    (λ c. search needs)
-    (λ c. search needs)
-    (λ c κs. search needs)
-    (λ c. omega (arith, high (c .before) .0))
-    (λ c. omega (arith, high (c .before) .1))
-    (λ c. omega (arith, high (c .before .before) .1))
-    (λ c. omega (arith, high (c .before .before .before) .1))
-    (λ c. omega (arith, high (c .before .before .before) .1))
-    returns-2)
+    (tie.spec (λ c. λ t highp s sum. RD-none s sum (c .if1 .taken)) (λ c. search needs) (λ c. search needs) (λ c κs. search needs)
+    (λ c. omega (arith, high (c .before) .0)) (λ c. omega (arith, high (c .before) .1)) (λ c. omega (arith, high (c .before .before) .1))
+    (λ c. omega (arith, high (c .before .before .before) .1)) (λ c. omega (arith, high (c .before .before .before) .1)) returns-2)

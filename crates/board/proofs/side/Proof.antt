@@ -35,14 +35,5 @@ returns c = let e : c .before .loop .q ≡ 0 = omega arith in rw (c .before .loo
 pub side-spec : {M : Type 1} → statement M
 side-spec =
     tie.close
-    (tie.spec
-    Inv-loop
-    μ-loop
-    loop-holds
-    (λ c. omega (arith, room c))
-    (λ c κs. search needs)
-    (λ c. omega (arith, room (c .before)))
-    (λ c. search needs)
-    (λ c. search needs)
-    loop-again
-    returns)
+    (tie.spec Inv-loop μ-loop loop-holds (λ c. omega (arith, room c)) (λ c κs. search needs) (λ c. omega (arith, room (c .before)))
+    (λ c. search needs) (λ c. search needs) loop-again returns)

@@ -29,16 +29,6 @@ returns c =
 pub weigh-spec : {M : Type 1} → statement M
 weigh-spec =
     tie.close
-    (tie.spec
-    (λ c. search needs)
-    (λ c. search needs)
-    (λ c κs. search needs)
-    (λ c. search needs)
-    (λ c. search needs)
-    (λ c κs. search needs)
-    (λ c. search needs)
-    (λ c κs. search needs)
-    (λ c. omega (arith, high (c .before)))
-    (λ c. omega (arith, high (c .before .before)))
-    (λ c. omega (arith, high (c .before .before)))
-    returns)
+    (tie.spec (λ c. search needs) (λ c. search needs) (λ c κs. search needs) (λ c. search needs) (λ c. search needs) (λ c κs. search needs)
+    (λ c. search needs) (λ c κs. search needs) (λ c. omega (arith, high (c .before))) (λ c. omega (arith, high (c .before .before)))
+    (λ c. omega (arith, high (c .before .before))) returns)

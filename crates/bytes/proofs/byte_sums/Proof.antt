@@ -33,4 +33,8 @@ returns c =
     rw (c .before .loop .inv .3, c .before .loop .inv .4, e, take-length)
 
 pub byte-sums-spec : {M : Type 1} → statement M
-byte-sums-spec = tie.close (tie.spec Inv-loop μ-loop loop-holds (λ c. search needs) (λ c. omega (arith, c .shared-slice-known .given (c .before .before .loop .at))) (λ c. omega (arith, c .shared-slice-known .given (c .before .before .loop .at))) (λ c. omega (arith, c .shared-slice-known .given (c .before .before .loop .at))) (λ c. search needs) (λ c. search needs) loop-again returns)
+byte-sums-spec =
+    tie.close
+    (tie.spec Inv-loop μ-loop loop-holds (λ c. search needs) (λ c. omega (arith, c .shared-slice-known .given (c .before .before .loop .at)))
+    (λ c. omega (arith, c .shared-slice-known .given (c .before .before .loop .at)))
+    (λ c. omega (arith, c .shared-slice-known .given (c .before .before .loop .at))) (λ c. search needs) (λ c. search needs) loop-again returns)

@@ -6,4 +6,7 @@ use Rattle.bytes.proofs.evens.Tie as tie
 
 pub evens-spec : {M : Type 1} → statement M
 unfolding evensOf
-evens-spec = tie.close (tie.spec (λ c. search needs) (λ c. search needs) (λ c. search needs) (λ c. search needs) (λ c. search needs) (λ c. search needs) (λ c. search needs))
+evens-spec =
+    tie.close
+    (tie.spec (λ c. search needs) (λ c. search needs) (λ c. search needs) (λ c. search needs) (λ c. search needs) (λ c. search needs)
+    (λ c. search needs))

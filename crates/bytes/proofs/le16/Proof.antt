@@ -16,4 +16,8 @@ returns c =
     rw (number-part s (a .at) 1 1 (omega arith), number-one s (a .at) (omega arith), number-one s (a .at + 1) (omega arith))
 
 pub le16-spec : {M : Type 1} → statement M
-le16-spec = tie.close (tie.spec (λ c. search needs) (λ c. omega (arith, c .shared-slice-known .given (c .before .args .at))) (λ c. search needs) (λ c. search needs) (λ c. omega (arith, c .shared-slice-known2 .given (c .before .before .args .at + 1))) (λ c. omega (arith, c .shared-slice-known2 .given (c .before .before .args .at + 1))) add-result-2 returns)
+le16-spec =
+    tie.close
+    (tie.spec (λ c. search needs) (λ c. omega (arith, c .shared-slice-known .given (c .before .args .at))) (λ c. search needs) (λ c. search needs)
+    (λ c. omega (arith, c .shared-slice-known2 .given (c .before .before .args .at + 1)))
+    (λ c. omega (arith, c .shared-slice-known2 .given (c .before .before .args .at + 1))) add-result-2 returns)

@@ -11,4 +11,7 @@ returns c =
     rw (c .before .le16 .ensures, c .le162 .ensures, number-part (a .s .now) (a .at) 2 2 (omega arith))
 
 pub le32-spec : {M : Type 1} → statement M
-le32-spec = tie.close (tie.spec (λ c κs. search needs) (λ c. search needs) (λ c. search needs) (λ c κs. search needs) (λ c. search needs) (λ c. search needs) (λ c. search needs) returns)
+le32-spec =
+    tie.close
+    (tie.spec (λ c κs. search needs) (λ c. search needs) (λ c. search needs) (λ c κs. search needs) (λ c. search needs) (λ c. search needs)
+    (λ c. search needs) returns)

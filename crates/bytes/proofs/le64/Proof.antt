@@ -11,4 +11,7 @@ returns c =
     rw (c .before .le32 .ensures, c .le322 .ensures, number-part (a .s .now) (a .at) 4 4 (omega arith))
 
 pub le64-spec : {M : Type 1} → statement M
-le64-spec = tie.close (tie.spec (λ c κs. search needs) (λ c. search needs) (λ c. search needs) (λ c κs. search needs) (λ c. search needs) (λ c. search needs) (λ c. search needs) returns)
+le64-spec =
+    tie.close
+    (tie.spec (λ c κs. search needs) (λ c. search needs) (λ c. search needs) (λ c κs. search needs) (λ c. search needs) (λ c. search needs)
+    (λ c. search needs) returns)

@@ -10,4 +10,8 @@ returns c =
     rw (c .added4 .ensures .0, c .before .added3 .ensures .0, d .added2 .ensures .0, w .weighed2 .ensures .0, w .before .weighed .ensures .0, w .before .before .added .ensures .0)
 
 pub out-of-lanes-spec : {M : Type 1} → statement M
-out-of-lanes-spec = tie.close (tie.spec (λ c κs. search needs) (λ c κs. search needs) (λ c κs. search needs) (λ c. search needs) (λ c. search needs) (λ c. search needs) (λ c κs. search needs) (λ c. search needs) (λ c κs. search needs) (λ c κs. search needs) (λ c. search needs) (λ c. search needs) (λ c. search needs) returns)
+out-of-lanes-spec =
+    tie.close
+    (tie.spec (λ c κs. search needs) (λ c κs. search needs) (λ c κs. search needs) (λ c. search needs) (λ c. search needs) (λ c. search needs)
+    (λ c κs. search needs) (λ c. search needs) (λ c κs. search needs) (λ c κs. search needs) (λ c. search needs) (λ c. search needs)
+    (λ c. search needs) returns)

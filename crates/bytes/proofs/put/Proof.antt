@@ -28,4 +28,7 @@ unfolding bytes
 returns c = let e : c .before .before .args .n - c .before .loop .i ≡ 0 = omega arith in sym (c .before .loop .inv .2 ∙ rw e)
 
 pub put-spec : {M : Type 1} → statement M
-put-spec = tie.close (tie.spec Inv-loop μ-loop (λ c. (search needs, search needs, rw (add-zero, sub-zero))) (λ c. search needs) (λ c. search needs) (λ c. search needs) (λ c. search needs) (λ c. search needs) loop-again (λ c. search needs) returns)
+put-spec =
+    tie.close
+    (tie.spec Inv-loop μ-loop (λ c. (search needs, search needs, rw (add-zero, sub-zero))) (λ c. search needs) (λ c. search needs) (λ c. search needs)
+    (λ c. search needs) (λ c. search needs) loop-again (λ c. search needs) returns)

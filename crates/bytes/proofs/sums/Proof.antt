@@ -64,4 +64,8 @@ returns c =
     c .joined2 .ensures ∙ rw (l .loop .inv .1, c .before .byte-sums .ensures) (rw take-length at (part-joined s (l .loop .at) (length s) (omega arith) (omega arith)))
 
 pub sums-spec : {M : Type 1} → statement M
-sums-spec = tie.close (tie.spec Inv-loop μ-loop loop-holds (λ c. search needs) (λ c. search needs) (λ c κs. search needs) (λ c. search needs) (λ c. search needs) (λ c. search needs) (λ c. search needs) (λ c. search needs) word-sums-requires (λ c. search needs) joined-requires (λ c. omega arith) loop-again (λ c. search needs) (λ c. search needs) (λ c. search needs) byte-sums-requires (λ c. search needs) joined-requires-2 returns)
+sums-spec =
+    tie.close
+    (tie.spec Inv-loop μ-loop loop-holds (λ c. search needs) (λ c. search needs) (λ c κs. search needs) (λ c. search needs) (λ c. search needs)
+    (λ c. search needs) (λ c. search needs) (λ c. search needs) word-sums-requires (λ c. search needs) joined-requires (λ c. omega arith) loop-again
+    (λ c. search needs) (λ c. search needs) (λ c. search needs) byte-sums-requires (λ c. search needs) joined-requires-2 returns)

@@ -34,4 +34,9 @@ returns : tie.Need-returns Inv-loop μ-loop
 returns c = c .out-of-lanes .ensures ∙ sums-in _ _ (c .before .before .loop .inv .1) (omega arith)
 
 pub word-sums-spec : {M : Type 1} → statement M
-word-sums-spec = tie.close (tie.spec Inv-loop μ-loop (λ c. (search needs, held-none _)) (λ c. search needs) (λ c κs. search needs) (λ c κs. search needs) (λ c. omega (arith, fits (c .before))) (λ c κs. search needs) (λ c. omega (arith, fits (c .before .before))) (λ c. omega (arith, fits (c .before .before))) (λ c. omega (arith, fits (c .before .before))) (λ c. search needs) (λ c. search needs) loop-again (λ c κs. early-fits _ _ (c .before .loop .inv .1)) returns)
+word-sums-spec =
+    tie.close
+    (tie.spec Inv-loop μ-loop (λ c. (search needs, held-none _)) (λ c. search needs) (λ c κs. search needs) (λ c κs. search needs)
+    (λ c. omega (arith, fits (c .before))) (λ c κs. search needs) (λ c. omega (arith, fits (c .before .before)))
+    (λ c. omega (arith, fits (c .before .before))) (λ c. omega (arith, fits (c .before .before))) (λ c. search needs) (λ c. search needs) loop-again
+    (λ c κs. early-fits _ _ (c .before .loop .inv .1)) returns)

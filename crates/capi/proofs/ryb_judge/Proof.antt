@@ -50,17 +50,5 @@ returns-3 c =
 pub ryb-judge-spec : {M : Type 1} → statement M
 ryb-judge-spec =
     tie.close
-    (tie.spec
-    (λ c κs. search needs)
-    (λ c κs. search needs)
-    returns
-    (λ c κs. search needs)
-    judge-accepted-requires
-    (λ c κs. search needs)
-    returns-2
-    (λ c. search needs)
-    few
-    (λ c. search needs)
-    (λ c. search needs)
-    (λ c. search needs)
-    returns-3)
+    (tie.spec (λ c κs. search needs) (λ c κs. search needs) returns (λ c κs. search needs) judge-accepted-requires (λ c κs. search needs) returns-2
+    (λ c. search needs) few (λ c. search needs) (λ c. search needs) (λ c. search needs) returns-3)

@@ -25,4 +25,8 @@ returns-2 c =
     c .record-at .ensures .0 ∙ rw back (sym (record-there _ _ (passes e)))
 
 pub ryb-record-spec : {M : Type 1} → statement M
-ryb-record-spec = tie.close (tie.spec (λ c κs. search needs) returns (λ c. omega (arith, viewed-long _ _ (eq-eqb _ _ (passes (c .before))))) (λ c. omega (arith, viewed-long _ _ (eq-eqb _ _ (passes (c .before .before))))) (λ c κs. search needs) (λ c. omega (arith, c .size .ensures, viewed-task _ _ (eq-eqb _ _ (passes (c .before .before .before))))) (λ c κs. search needs) returns-2)
+ryb-record-spec =
+    tie.close
+    (tie.spec (λ c κs. search needs) returns (λ c. omega (arith, viewed-long _ _ (eq-eqb _ _ (passes (c .before)))))
+    (λ c. omega (arith, viewed-long _ _ (eq-eqb _ _ (passes (c .before .before))))) (λ c κs. search needs)
+    (λ c. omega (arith, c .size .ensures, viewed-task _ _ (eq-eqb _ _ (passes (c .before .before .before))))) (λ c κs. search needs) returns-2)

@@ -26,17 +26,5 @@ returns-2 c = c .refused2 .ensures ∙ left-none _ _ _ _ (c .before .before .loo
 pub check-relations-spec : {M : Type 1} → statement M
 check-relations-spec =
     tie.close
-    (tie.spec
-    Inv-loop
-    μ-loop
-    (λ c. left-all _ _ _)
-    (λ c. omega arith)
-    (λ c κs. search needs)
-    (λ c. omega arith)
-    (λ c κs. search needs)
-    returns
-    (λ c. omega arith)
-    (λ c. omega arith)
-    loop-again
-    (λ c κs. search needs)
-    returns-2)
+    (tie.spec Inv-loop μ-loop (λ c. left-all _ _ _) (λ c. omega arith) (λ c κs. search needs) (λ c. omega arith) (λ c κs. search needs) returns
+    (λ c. omega arith) (λ c. omega arith) loop-again (λ c κs. search needs) returns-2)

@@ -50,5 +50,5 @@ pub check-tasks-spec : {M : Type 1} → statement M
 check-tasks-spec =
     tie.close
     (tie.spec Inv-loop μ-loop (λ c κs. search needs) loop-holds (λ c κs. search needs) (λ c. search needs) (λ c. search needs)
-    (λ c. search (needs, unmapped)) (λ c. omega arith) (λ c κs. search needs) (λ c. omega arith) (λ c. omega arith) loop-again
-    (λ c κs. search needs) returns)
+    (λ c. search (needs, unmapped)) (λ c. omega arith) (λ c κs. search needs) (λ c. omega arith) (λ c. omega arith) loop-again (λ c κs. search needs)
+    returns)

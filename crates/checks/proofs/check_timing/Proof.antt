@@ -14,10 +14,4 @@ unfolding checkTiming
 returns-2 c = goes-on _ _ (c .before .before .before .check-ranges .ensures) (c .before .if1 .left) (c .check-relations .ensures)
 
 pub check-timing-spec : {M : Type 1} → statement M
-check-timing-spec =
-    tie.close
-    (tie.spec
-    (λ c κs. search needs)
-    returns
-    (λ c κs. search needs)
-    returns-2)
+check-timing-spec = tie.close (tie.spec (λ c κs. search needs) returns (λ c κs. search needs) returns-2)

@@ -8,9 +8,4 @@ returns : tie.Need-returns
 returns c = rw (c .if1 .taken, mod-zero)
 
 pub remainder-spec : {M : Type 1} → statement M
-remainder-spec =
-    tie.close
-    (tie.spec
-    (λ c. search needs)
-    returns
-    (λ c. search needs))
+remainder-spec = tie.close (tie.spec (λ c. search needs) returns (λ c. search needs))

@@ -29,14 +29,11 @@ returns-2 c =
 pub apply-spec : {M : Type 1} → statement M
 apply-spec =
     tie.close
-    (tie.spec
-    (λ c κs. ((c .pre .0 .0, omega arith, c .pre .0 .1), c .pre .1 .execs))
+    (tie.spec (λ c κs. ((c .pre .0 .0, omega arith, c .pre .0 .1), c .pre .1 .execs))
     (λ c. omega (arith, execs-high (c .before), c .before .before .pre .1 .exec-high))
     (λ c κs. let p = c .before .before .pre in ((p .0 .0, omega arith, p .0 .1), slots-wider (p .1 .asks)))
-    (λ c. omega (arith, asks-high (c .before), c .before .before .before .before .pre .1 .requests-high))
-    (λ c κs. search needs)
+    (λ c. omega (arith, asks-high (c .before), c .before .before .before .before .pre .1 .requests-high)) (λ c κs. search needs)
     (λ c κs. let p = c .before .before .before .before .before .pre in (p .0, p .1 .groups))
     (λ c. omega (arith, execs-high (c .before .before .before .before .before .before), c .before .before .before .before .before .before .before .pre .1 .exec-high, c .before .job .ensures .high))
     (λ c. omega (arith, execs-high (c .before .before .before .before .before .before), c .before .before .before .before .before .before .before .pre .1 .exec-high, c .before .job .ensures .high))
-    returns
-    returns-2)
+    returns returns-2)

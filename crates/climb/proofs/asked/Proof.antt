@@ -33,21 +33,7 @@ returns c = let e : c .before .loop .i ≡ c .before .before .args .e = omega ar
 pub asked-spec : {M : Type 1} → statement M
 asked-spec =
     tie.close
-    (tie.spec
-    Inv-loop
-    μ-loop
-    (λ c. (search needs, so-far-none))
-    (λ c. search needs)
-    (λ c. search needs)
-    (λ c. search needs)
-    (λ c. search needs)
+    (tie.spec Inv-loop μ-loop (λ c. (search needs, so-far-none)) (λ c. search needs) (λ c. search needs) (λ c. search needs) (λ c. search needs)
     (λ c κs. let p = c .before .before .before .before .pre in let l = c .before .before .before .loop in ((p .0 .0, p .1 .period (l .i) (l .inv .1 .low) (c .before .before .loop-test .taken)), p .0 .2 .each (l .i)))
-    (λ c. search needs)
-    (λ c. search needs)
-    (λ c. search needs)
-    (λ c. omega (arith, term-high c))
-    (λ c. omega (arith, term-high c))
-    (λ c. search needs)
-    (λ c. search needs)
-    loop-again
-    returns)
+    (λ c. search needs) (λ c. search needs) (λ c. search needs) (λ c. omega (arith, term-high c)) (λ c. omega (arith, term-high c))
+    (λ c. search needs) (λ c. search needs) loop-again returns)

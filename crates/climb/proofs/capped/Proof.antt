@@ -9,9 +9,5 @@ use Rattle.climb.proofs.capped.Tie as tie
 pub capped-spec : {M : Type 1} → statement M
 capped-spec =
     tie.close
-    (tie.spec
-    (λ c. simp (c .if1 .taken, mul-zero))
-    (λ c. search needs)
-    (λ c. omega (arith, under _ _ _ (search needs) (c .if2 .taken)))
-    (λ c. omega (arith, under _ _ _ (search needs) (c .if2 .taken)))
-    (λ c. omega (arith, over _ _ _ (search needs) (c .if2 .left))))
+    (tie.spec (λ c. simp (c .if1 .taken, mul-zero)) (λ c. search needs) (λ c. omega (arith, under _ _ _ (search needs) (c .if2 .taken)))
+    (λ c. omega (arith, under _ _ _ (search needs) (c .if2 .taken))) (λ c. omega (arith, over _ _ _ (search needs) (c .if2 .left))))

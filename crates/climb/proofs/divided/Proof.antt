@@ -8,8 +8,5 @@ use Rattle.climb.proofs.divided.Tie as tie
 pub divided-spec : {M : Type 1} → statement M
 divided-spec =
     tie.close
-    (tie.spec
-    (λ c. search needs)
-    (λ c. search needs)
-    (λ c. search needs)
+    (tie.spec (λ c. search needs) (λ c. search needs) (λ c. search needs)
     (λ c. record { is = search needs; high = up-high (c .args .t) (c .args .period) 10000 (search needs) (omega arith) }))

@@ -22,20 +22,10 @@ returns c =
 pub job-spec : {M : Type 1} → statement M
 job-spec =
     tie.close
-    (tie.spec
-    Inv-loop
-    μ-loop
-    (λ c. (search needs, added-none))
-    (λ c. search needs)
-    (λ c. search needs)
-    (λ c. search needs)
-    (λ c. search needs)
-    (λ c. search needs)
-    (λ c. search needs)
-    (λ c. search needs)
+    (tie.spec Inv-loop μ-loop (λ c. (search needs, added-none)) (λ c. search needs) (λ c. search needs) (λ c. search needs) (λ c. search needs)
+    (λ c. search needs) (λ c. search needs) (λ c. search needs)
     (λ c κs. let p = c .before .before .before .before .before .pre in let g = p .1 .each (c .before .before .before .before .loop .q) (omega arith) in ((p .0 .0, g .weight-high, p .0 .1), g .slots))
     (λ c. omega (arith, added-next (c .before .before .before .before .before .loop .inv .1) (c .before .before .before .before .before .before .pre .1 .each (c .before .before .before .before .before .loop .q) (omega arith)) (c .charged .ensures) .fits))
-    (λ c. search needs)
-    (λ c. search needs)
+    (λ c. search needs) (λ c. search needs)
     (λ c. (search needs, added-next (c .before .before .before .before .before .loop .inv .1) (c .before .before .before .before .before .before .pre .1 .each (c .before .before .before .before .before .loop .q) (omega arith)) (c .charged .ensures)))
     returns)

@@ -22,11 +22,5 @@ returns c =
 pub up-spec : {M : Type 1} → statement M
 up-spec =
     tie.close
-    (tie.spec
-    (λ c. omega (arith, product-high c))
-    (λ c. omega (arith, mul-le-mul (small c) (c .pre .0 .1 .high)))
-    (λ c. search needs)
-    (λ c. omega (arith, small (c .before .before)))
-    returns
-    (λ c κs. search needs)
-    (λ c. c .divided .ensures))
+    (tie.spec (λ c. omega (arith, product-high c)) (λ c. omega (arith, mul-le-mul (small c) (c .pre .0 .1 .high))) (λ c. search needs)
+    (λ c. omega (arith, small (c .before .before))) returns (λ c κs. search needs) (λ c. c .divided .ensures))

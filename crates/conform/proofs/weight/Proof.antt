@@ -15,15 +15,8 @@ abbrev μ-loop : tie.MeasureT-loop
 pub weight-spec : {M : Type 1} → statement M
 weight-spec =
     tie.close
-    (tie.spec
-    Inv-loop
-    μ-loop
-    (λ c. search needs)
-    (λ c. search needs)
-    (λ c. search needs)
+    (tie.spec Inv-loop μ-loop (λ c. search needs) (λ c. search needs) (λ c. search needs)
     (λ c. omega (arith, c .shared-slice-known .given (c .before .before .loop .i - 1)))
     (λ c. omega (arith, c .shared-slice-known .given (c .before .before .loop .i - 1)))
-    (λ c. omega (arith, c .shared-slice-known .given (c .before .before .loop .i - 1)))
-    (λ c. search needs)
-    (λ c. omega (arith, c .shared-slice-known .given (c .before .before .loop .i - 1)))
-    (λ c. search needs))
+    (λ c. omega (arith, c .shared-slice-known .given (c .before .before .loop .i - 1))) (λ c. search needs)
+    (λ c. omega (arith, c .shared-slice-known .given (c .before .before .loop .i - 1))) (λ c. search needs))

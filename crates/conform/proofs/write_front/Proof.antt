@@ -12,12 +12,5 @@ slice-aggregate-write c = sym (length-take-le _ _ (omega arith))
 pub write-front-spec : {M : Type 1} → statement M
 write-front-spec =
     tie.close
-    (tie.spec
-    (λ c. search needs)
-    slice-aggregate-write
-    (λ c κs. search needs)
-    (λ c κs. search needs)
-    (λ c. search needs)
-    (λ c. search needs)
-    (λ c. search needs)
-    (λ c. search needs))
+    (tie.spec (λ c. search needs) slice-aggregate-write (λ c κs. search needs) (λ c κs. search needs) (λ c. search needs) (λ c. search needs)
+    (λ c. search needs) (λ c. search needs))

@@ -17,6 +17,4 @@ returns : tie.Need-returns
 returns c = rw (c .plus2 .ensures, c .before .readwrite .ensures, c .before .before .plus .ensures, c .before .before .before .act .ensures, c .before .before .before .before .pre2 .ensures)
 
 pub crossing-spec : {M : Type 1} → statement M
-crossing-spec =
-    tie.close
-    (tie.spec (λ c κs. search needs) (λ c κs. search needs) plus-requires (λ c κs. search needs) plus-requires-2 returns)
+crossing-spec = tie.close (tie.spec (λ c κs. search needs) (λ c κs. search needs) plus-requires (λ c κs. search needs) plus-requires-2 returns)

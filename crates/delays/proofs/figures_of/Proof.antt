@@ -38,16 +38,8 @@ returns c =
 pub figures-of-spec : {M : Type 1} → statement M
 figures-of-spec =
     tie.close
-    (tie.spec
-    (λ c κs. search needs)
-    (λ c κs. search needs)
-    (λ c κs. rw (c .crossing .ensures) (crossing-fits _ (c .before .before .pre)))
-    (λ c κs. search needs)
-    (λ c κs. rw (c .conf .ensures) (conf-fits _ (c .before .before .before .before .pre)))
-    (λ c κs. search needs)
-    (λ c κs. rw (c .readwrite .ensures) (readwrite-fits _ (c .before .before .before .before .before .before .pre)))
-    (λ c κs. search needs)
-    (λ c κs. rw (c .reopen .ensures) (reopen-fits _ (c .before .before .before .before .before .before .before .before .pre)))
-    run-requires
-    in-time-requires-5
-    returns)
+    (tie.spec (λ c κs. search needs) (λ c κs. search needs) (λ c κs. rw (c .crossing .ensures) (crossing-fits _ (c .before .before .pre)))
+    (λ c κs. search needs) (λ c κs. rw (c .conf .ensures) (conf-fits _ (c .before .before .before .before .pre))) (λ c κs. search needs)
+    (λ c κs. rw (c .readwrite .ensures) (readwrite-fits _ (c .before .before .before .before .before .before .pre))) (λ c κs. search needs)
+    (λ c κs. rw (c .reopen .ensures) (reopen-fits _ (c .before .before .before .before .before .before .before .before .pre))) run-requires
+    in-time-requires-5 returns)

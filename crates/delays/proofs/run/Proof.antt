@@ -23,15 +23,6 @@ returns c =
 pub run-spec : {M : Type 1} → statement M
 run-spec =
     tie.close
-    (tie.spec
-    (λ c. omega arith)
-    (λ c κs. search needs)
-    (λ c κs. (omega arith, c .turn .ensures .1))
-    (λ c κs. search needs)
-    (λ c κs. (omega arith, omega arith))
-    (λ c. omega arith)
-    (λ c κs. search needs)
-    (λ c κs. search needs)
-    (λ c κs. search needs)
-    (λ c. omega arith)
+    (tie.spec (λ c. omega arith) (λ c κs. search needs) (λ c κs. (omega arith, c .turn .ensures .1)) (λ c κs. search needs)
+    (λ c κs. (omega arith, omega arith)) (λ c. omega arith) (λ c κs. search needs) (λ c κs. search needs) (λ c κs. search needs) (λ c. omega arith)
     returns)

@@ -15,4 +15,8 @@ read-form c =
     omega (arith, after-sets (formIn s) (coresIn s) (a .i + 1), sets-limit (formIn s))
 
 pub record-in-spec : {M : Type 1} → statement M
-record-in-spec = tie.close (tie.spec read-form (λ c. omega (arith, read-form (c .before))) (λ c κs. search needs) (λ c κs. search needs) (λ c. search needs) (λ c. search needs) (λ c. search needs) (λ c. search needs) (λ c. part-record _ _ _ _ (c .before .before .record-at .ensures .0) (c .before .record-size .ensures .0)))
+record-in-spec =
+    tie.close
+    (tie.spec read-form (λ c. omega (arith, read-form (c .before))) (λ c κs. search needs) (λ c κs. search needs) (λ c. search needs)
+    (λ c. search needs) (λ c. search needs) (λ c. search needs)
+    (λ c. part-record _ _ _ _ (c .before .before .record-at .ensures .0) (c .before .record-size .ensures .0)))

@@ -57,5 +57,7 @@ pub records-in-spec : {M : Type 1} → statement M
 records-in-spec =
     tie.close
     (tie.spec Inv-loop μ-loop (λ c. search needs) (λ c. search needs) (λ c κs. search needs) (λ c. rw (c .no-faults .ensures) (seen-none _ _ _))
-    (λ c κs. search needs) record-in-requires task-in-requires (λ c. omega (arith, c .before .before .before .before .before .before .shared-slice-known3 .given 2)) (λ c κs. search needs)
-    (λ c. omega (arith, c .before .before .before .before .before .before .before .shared-slice-known3 .given 2)) (λ c. search needs) loop-again (λ c κs. search needs) returns)
+    (λ c κs. search needs) record-in-requires task-in-requires
+    (λ c. omega (arith, c .before .before .before .before .before .before .shared-slice-known3 .given 2)) (λ c κs. search needs)
+    (λ c. omega (arith, c .before .before .before .before .before .before .before .shared-slice-known3 .given 2)) (λ c. search needs) loop-again
+    (λ c κs. search needs) returns)

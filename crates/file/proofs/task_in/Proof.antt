@@ -14,4 +14,6 @@ returns c =
     rw (d .before .before .le64 .ensures, d .before .le642 .ensures, d .le643 .ensures, c .le32 .ensures, ← number-one s 0 (omega arith))
 
 pub task-in-spec : {M : Type 1} → statement M
-task-in-spec = tie.close (tie.spec (λ c κs. search needs) (λ c κs. search needs) (λ c κs. search needs) (λ c. search needs) (λ c κs. search needs) returns)
+task-in-spec =
+    tie.close
+    (tie.spec (λ c κs. search needs) (λ c κs. search needs) (λ c κs. search needs) (λ c. search needs) (λ c κs. search needs) returns)

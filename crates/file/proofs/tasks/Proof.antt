@@ -37,4 +37,9 @@ loop-again c =
     (search needs, rw (l .inv .1, c .task-in .ensures, c .before .record-in .ensures) (task-next _ (l .i) (omega arith)))
 
 pub tasks-spec : {M : Type 1} → statement M
-tasks-spec = tie.close (tie.spec Inv-loop μ-loop (λ c κs. search needs) loop-holds (λ c κs. omega (arith, ends c)) (λ c κs. rw (c .record-in .ensures) (record-long _ _ (ends (c .before)))) (λ c. search needs) (λ c. search needs) (λ c. search needs) (λ c. search needs) loop-again (λ c. let e : c .before .loop .i ≡ c .before .before .before .before .args .n = omega arith in rw e at (c .before .loop .inv .1)))
+tasks-spec =
+    tie.close
+    (tie.spec Inv-loop μ-loop (λ c κs. search needs) loop-holds (λ c κs. omega (arith, ends c))
+    (λ c κs. rw (c .record-in .ensures) (record-long _ _ (ends (c .before)))) (λ c. search needs) (λ c. search needs) (λ c. search needs)
+    (λ c. search needs) loop-again
+    (λ c. let e : c .before .loop .i ≡ c .before .before .before .before .args .n = omega arith in rw e at (c .before .loop .inv .1)))

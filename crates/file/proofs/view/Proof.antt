@@ -36,4 +36,8 @@ returns-2 c =
     c .record-in .ensures ∙ rw back (sym (view-record _ _ (passed (z .before))))
 
 pub view-spec : {M : Type 1} → statement M
-view-spec = tie.close (tie.spec (λ c κs. search needs) (λ c. search needs) (λ c. search needs) (λ c. search needs) (λ c. sym (view-nothing _ _ (rw (c .before .before .before .view-refusal .ensures) at (ne-eqb _ _ (c .before .if1 .taken))))) (λ c κs. search needs) (λ c. omega (arith, c .size .ensures, viewed-task _ _ (passed (c .before)))) record-in-requires returns-2)
+view-spec =
+    tie.close
+    (tie.spec (λ c κs. search needs) (λ c. search needs) (λ c. search needs) (λ c. search needs)
+    (λ c. sym (view-nothing _ _ (rw (c .before .before .before .view-refusal .ensures) at (ne-eqb _ _ (c .before .if1 .taken)))))
+    (λ c κs. search needs) (λ c. omega (arith, c .size .ensures, viewed-task _ _ (passed (c .before)))) record-in-requires returns-2)

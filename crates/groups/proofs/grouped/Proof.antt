@@ -27,18 +27,7 @@ loop-again c =
 pub grouped-spec : {M : Type 1} → statement M
 grouped-spec =
     tie.close
-    (tie.spec
-    Inv-loop
-    μ-loop
-    (λ c. search needs)
-    (λ c. let p = c .before .pre .1 in (search needs, laid-none _ (p .0) (p .1 .0) (p .1 .1) (p .1 .2)))
-    (λ c. search needs)
-    (λ c. search needs)
-    group-requires
-    (λ c. search needs)
-    (λ c. search needs)
-    (λ c. search needs)
-    (λ c. search needs)
-    (λ c. search needs)
-    loop-again
+    (tie.spec Inv-loop μ-loop (λ c. search needs) (λ c. let p = c .before .pre .1 in (search needs, laid-none _ (p .0) (p .1 .0) (p .1 .1) (p .1 .2)))
+    (λ c. search needs) (λ c. search needs) group-requires (λ c. search needs) (λ c. search needs) (λ c. search needs) (λ c. search needs)
+    (λ c. search needs) loop-again
     (λ c. laid-all (c .before .before .before .args .table) (c .before .before .before .pre .0) (omega arith) (c .before .loop .inv .1)))

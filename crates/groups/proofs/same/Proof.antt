@@ -5,4 +5,7 @@ use Rattle.groups.proofs.same.Statement.{statement}
 use Rattle.groups.proofs.same.Tie as tie
 
 pub same-spec : {M : Type 1} → statement M
-same-spec = tie.close (tie.spec (λ c. record { is = rw (eq-eqb _ _ (c .if1 .taken)); high = search needs }) (λ c. record { is = rw (ne-eqb _ _ (c .if1 .left)); high = search needs }))
+same-spec =
+    tie.close
+    (tie.spec (λ c. record { is = rw (eq-eqb _ _ (c .if1 .taken)); high = search needs })
+    (λ c. record { is = rw (ne-eqb _ _ (c .if1 .left)); high = search needs }))

@@ -43,18 +43,5 @@ returns-5 c =
 pub check-start-spec : {M : Type 1} → statement M
 check-start-spec =
     tie.close
-    (tie.spec
-    (λ c κs. search needs)
-    returns
-    (λ c κs. search needs)
-    returns-2
-    (λ c κs. search needs)
-    returns-3
-    (λ c. search needs)
-    (λ c. search needs)
-    element-copy-out-task
-    (λ c κs. search needs)
-    (λ c κs. search needs)
-    returns-4
-    (λ c κs. search needs)
-    returns-5)
+    (tie.spec (λ c κs. search needs) returns (λ c κs. search needs) returns-2 (λ c κs. search needs) returns-3 (λ c. search needs) (λ c. search needs)
+    element-copy-out-task (λ c κs. search needs) (λ c κs. search needs) returns-4 (λ c κs. search needs) returns-5)

@@ -26,6 +26,4 @@ returns-2 : tie.Need-returns-2
 returns-2 c = let s = c .before .before .before .before in c .judge-tasks .ensures ∙ all-tasks (s .args .table) (s .args .starts) (accepted-judged _ (s .pre)) (none-late (c .before))
 
 pub judge-accepted-spec : {M : Type 1} → statement M
-judge-accepted-spec =
-    tie.close
-    (tie.spec (λ c κs. sound (c .args .table) (c .pre)) (λ c κs. search needs) returns judge-tasks-requires returns-2)
+judge-accepted-spec = tie.close (tie.spec (λ c κs. sound (c .args .table) (c .pre)) (λ c κs. search needs) returns judge-tasks-requires returns-2)

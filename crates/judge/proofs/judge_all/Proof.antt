@@ -16,5 +16,5 @@ returns c =
 pub judge-all-spec : {M : Type 1} → statement M
 judge-all-spec =
     tie.close
-    (tie.spec (λ c κs. search needs) (λ c κs. search needs) returns (λ c κs. judged-accepted _ (passes (c .before .before .gate .ensures) (c .if1 .left)))
-    (λ c. c .judge-accepted .ensures))
+    (tie.spec (λ c κs. search needs) (λ c κs. search needs) returns
+    (λ c κs. judged-accepted _ (passes (c .before .before .gate .ensures) (c .if1 .left))) (λ c. c .judge-accepted .ensures))

@@ -72,16 +72,5 @@ returns-4 c =
 pub judge-carried-spec : {M : Type 1} → statement M
 judge-carried-spec =
     tie.close
-    (tie.spec
-    (λ c κs. search needs)
-    (λ c κs. search needs)
-    returns
-    (λ c κs. search needs)
-    (λ c κs. search needs)
-    returns-2
-    (λ c κs. search needs)
-    older-starts-requires
-    answers-requires
-    returns-3
-    answers-requires-2
-    returns-4)
+    (tie.spec (λ c κs. search needs) (λ c κs. search needs) returns (λ c κs. search needs) (λ c κs. search needs) returns-2 (λ c κs. search needs)
+    older-starts-requires answers-requires returns-3 answers-requires-2 returns-4)

@@ -47,17 +47,5 @@ returns c =
 pub older-starts-spec : {M : Type 1} → statement M
 older-starts-spec =
     tie.close
-    (tie.spec
-    Inv-loop
-    μ-loop
-    answers-requires
-    (λ c. (search needs, column-none))
-    (λ c. search needs)
-    (λ c. search needs)
-    (λ c κs. search needs)
-    (λ c. search needs)
-    (λ c. search needs)
-    (λ c. search needs)
-    (λ c. search needs)
-    loop-again
-    returns)
+    (tie.spec Inv-loop μ-loop answers-requires (λ c. (search needs, column-none)) (λ c. search needs) (λ c. search needs) (λ c κs. search needs)
+    (λ c. search needs) (λ c. search needs) (λ c. search needs) (λ c. search needs) loop-again returns)

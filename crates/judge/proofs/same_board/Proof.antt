@@ -53,16 +53,11 @@ returns-6 c = rw (counted (c .before .before .before .before .before .before .be
 pub same-board-spec : {M : Type 1} → statement M
 same-board-spec =
     tie.close
-    (tie.spec
-    returns
-    returns-2
-    returns-3
-    returns-4
+    (tie.spec returns returns-2 returns-3 returns-4
     (λ c. sym (row-long (c .before .before .before .before .before .before .before .before .before .before .before .before .before .before .before)))
     (λ c. sym (other-long (c .before .before .before .before .before .before .before .before .before .before .before .before .before .before .before .before)))
     (λ c κs. let s = c .before .before .before .before .before .before .before .before .before .before .before .before .before .before .before .before in row-long s ∙ sym (other-long s))
-    returns-5
-    (λ c. search needs)
+    returns-5 (λ c. search needs)
     (λ c. sym (sets-long (c .before .before .before .before .before .before .before .before .before .before .before .before .before .before .before .before .before .before .before .before .before .before)))
     (λ c. sym (others-long (c .before .before .before .before .before .before .before .before .before .before .before .before .before .before .before .before .before .before .before .before .before .before .before)))
     (λ c κs. let s = c .before .before .before .before .before .before .before .before .before .before .before .before .before .before .before .before .before .before .before .before .before .before .before in sets-long s ∙ sym (others-long s))

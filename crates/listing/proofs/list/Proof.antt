@@ -25,11 +25,4 @@ returns-2 c =
 pub list-spec : {M : Type 1} → statement M
 list-spec =
     tie.close
-    (tie.spec
-    (λ c κs. search needs)
-    (λ c κs. search needs)
-    (λ c. search needs)
-    returns
-    list-table-requires
-    (λ c. search needs)
-    returns-2)
+    (tie.spec (λ c κs. search needs) (λ c κs. search needs) (λ c. search needs) returns list-table-requires (λ c. search needs) returns-2)

@@ -104,39 +104,21 @@ returns-2 c =
 pub judge-each-spec : {M : Type 1} → statement M
 judge-each-spec =
     tie.close
-    (tie.spec
-    Inv-loop
-    μ-loop
-    (λ c. search needs)
-    (λ c κs. search needs)
-    (λ c κs. omega (arith, c .before .pre .0 .tasks-in .high))
-    loop-holds
-    (λ c. search needs)
-    (λ c. search needs)
-    (λ c. omega (arith, core-in c .low, core-in c .high))
-    (λ c. omega (arith, core-in c .low, core-in c .high))
-    (λ c. omega (arith, core-in c .low, core-in c .high))
-    (λ c. omega (arith, core-in c .low, core-in c .high))
-    add-next
-    (λ c. omega (arith, core-in c .low, core-in c .high))
-    (λ c. omega (arith, core-in c .low, core-in c .high))
-    (λ c. omega (arith, core-in c .low, core-in c .high))
-    (λ c. omega (arith, core-in c .low, core-in c .high))
-    (λ c. omega (arith, core-in (c .before) .low, core-in (c .before) .high))
-    (λ c. omega (arith, core-in (c .before) .low, core-in (c .before) .high))
-    (λ c κs. search needs)
+    (tie.spec Inv-loop μ-loop (λ c. search needs) (λ c κs. search needs) (λ c κs. omega (arith, c .before .pre .0 .tasks-in .high)) loop-holds
+    (λ c. search needs) (λ c. search needs) (λ c. omega (arith, core-in c .low, core-in c .high))
+    (λ c. omega (arith, core-in c .low, core-in c .high)) (λ c. omega (arith, core-in c .low, core-in c .high))
+    (λ c. omega (arith, core-in c .low, core-in c .high)) add-next (λ c. omega (arith, core-in c .low, core-in c .high))
+    (λ c. omega (arith, core-in c .low, core-in c .high)) (λ c. omega (arith, core-in c .low, core-in c .high))
+    (λ c. omega (arith, core-in c .low, core-in c .high)) (λ c. omega (arith, core-in (c .before) .low, core-in (c .before) .high))
+    (λ c. omega (arith, core-in (c .before) .low, core-in (c .before) .high)) (λ c κs. search needs)
     (λ c. omega (arith, c .before .before .before .before .before .before .loop-test .taken, c .before .before .before .before .before .before .before .before .before .before .before .pre .0 .tasks-in .high))
     (λ c. omega (arith, c .before .before .before .before .before .before .loop-test .taken, c .before .before .before .before .before .before .before .before .before .before .before .pre .0 .tasks-in .high))
     settle-requires
     (λ c. omega (arith, c .before .before .before .before .before .before .before .before .loop-test .taken, c .before .before .before .before .before .before .before .before .before .before .before .before .before .pre .0 .tasks-in .high))
     (λ c. omega (arith, c .before .before .before .before .before .before .before .before .loop-test .taken, c .before .before .before .before .before .before .before .before .before .before .before .before .before .pre .0 .tasks-in .high))
-    (λ c κs. search needs)
-    (λ c κs. search needs)
-    returns
+    (λ c κs. search needs) (λ c κs. search needs) returns
     (λ c. omega (arith, c .before .before .before .before .before .before .before .before .before .loop-test .taken, c .before .before .before .before .before .before .before .before .before .before .before .before .before .before .pre .0 .tasks-in .high))
     (λ c. omega (arith, c .before .before .before .before .before .before .before .before .before .loop-test .taken, c .before .before .before .before .before .before .before .before .before .before .before .before .before .before .pre .0 .tasks-in .high))
     (λ c. omega (arith, c .before .before .before .before .before .before .before .before .before .loop-test .taken, c .before .before .before .before .before .before .before .before .before .before .before .before .before .before .pre .0 .tasks-in .high))
     (λ c. omega (arith, c .before .before .before .before .before .before .before .before .before .loop-test .taken, c .before .before .before .before .before .before .before .before .before .before .before .before .before .before .pre .0 .tasks-in .high))
-    loop-again
-    (λ c κs. search needs)
-    returns-2)
+    loop-again (λ c κs. search needs) returns-2)

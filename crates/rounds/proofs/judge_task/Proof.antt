@@ -43,19 +43,13 @@ returns c =
 pub judge-task-spec : {M : Type 1} → statement M
 judge-task-spec =
     tie.close
-    (tie.spec
-    (λ c. search needs)
-    (λ c. search needs)
-    (λ c. search needs)
+    (tie.spec (λ c. search needs) (λ c. search needs) (λ c. search needs)
     (λ c κs. let core = core-in c in (c .before .pre .0, (core .low, core .high)))
     (λ c κs. (c .before .before .before .before .before .before .pre .0, (refl, (refl, refl, refl))))
     (λ c. let core = core-in (c .before .before .before .before .before .before) in omega (arith, core .low, core .high, c .before .before .before .before .before .before .before .pre .0 .cores-in .high))
     (λ c. let core = core-in (c .before .before .before .before .before .before) in omega (arith, core .low, core .high, c .before .before .before .before .before .before .before .pre .0 .cores-in .high))
     (λ c. let core = core-in (c .before .before .before .before .before .before) in omega (arith, core .low, core .high, c .before .before .before .before .before .before .before .pre .0 .cores-in .high))
     (λ c. let core = core-in (c .before .before .before .before .before .before) in omega (arith, core .low, core .high, c .before .before .before .before .before .before .before .pre .0 .cores-in .high))
-    place-requires
-    (λ c κs. search needs)
-    (λ c. search needs)
-    (λ c κs. omega (arith, c .before .before .before .before .before .before .before .before .before .before .pre .0 .tasks-in .high))
-    settle-requires
+    place-requires (λ c κs. search needs) (λ c. search needs)
+    (λ c κs. omega (arith, c .before .before .before .before .before .before .before .before .before .before .pre .0 .tasks-in .high)) settle-requires
     returns)

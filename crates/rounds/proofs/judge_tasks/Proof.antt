@@ -14,8 +14,5 @@ judge-each-requires c κs =
 pub judge-tasks-spec : {M : Type 1} → statement M
 judge-tasks-spec =
     tie.close
-    (tie.spec
-    (λ c κs. search needs)
-    (λ c κs. (c .before .before .before .before .before .pre .0, (refl, (refl, refl, refl))))
-    judge-each-requires
+    (tie.spec (λ c κs. search needs) (λ c κs. (c .before .before .before .before .before .pre .0, (refl, (refl, refl, refl)))) judge-each-requires
     (λ c. search needs))

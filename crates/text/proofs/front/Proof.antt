@@ -9,7 +9,5 @@ use Rattle.text.proofs.front.Tie as tie
 pub front-spec : {M : Type 1} → statement M
 front-spec =
     tie.close
-    (tie.spec
-    (λ c. sym (length-take-le _ _ (omega arith)))
-    (λ c. search needs)
+    (tie.spec (λ c. sym (length-take-le _ _ (omega arith))) (λ c. search needs)
     (λ c. sym (take-all (c .before .args .n) (c .before .args .s .now) (omega arith))))

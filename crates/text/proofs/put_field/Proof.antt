@@ -8,9 +8,5 @@ use Rattle.text.proofs.put_field.Tie as tie
 pub put-field-spec : {M : Type 1} → statement M
 put-field-spec =
     tie.close
-    (tie.spec
-    (λ c κs. search needs)
-    (λ c. search needs)
-    (λ c. search needs)
-    (λ c. search needs)
+    (tie.spec (λ c κs. search needs) (λ c. search needs) (λ c. search needs) (λ c. search needs)
     (λ c. (c .before .before .put-number .ensures .0 then stored _ _ _, omega arith)))

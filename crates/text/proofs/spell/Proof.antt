@@ -33,18 +33,6 @@ returns c =
 pub spell-spec : {M : Type 1} → statement M
 spell-spec =
     tie.close
-    (tie.spec
-    Inv-loop
-    μ-loop
-    (λ c. (search needs, c .pre, search needs, spell-none (c .args .n) (c .args .d .now) 19 (c .pre)))
-    (λ c. search needs)
-    (λ c. search needs)
-    (λ c. search needs)
-    (λ c. place-before (c .before .loop .m) (c .before .loop .i) (omega arith) (c .before .loop .inv .2))
-    (λ c. search needs)
-    loop-again
-    (λ c. search needs)
-    (λ c. search needs)
-    (λ c. search needs)
-    (λ c. simp length-set (omega arith))
-    returns)
+    (tie.spec Inv-loop μ-loop (λ c. (search needs, c .pre, search needs, spell-none (c .args .n) (c .args .d .now) 19 (c .pre))) (λ c. search needs)
+    (λ c. search needs) (λ c. search needs) (λ c. place-before (c .before .loop .m) (c .before .loop .i) (omega arith) (c .before .loop .inv .2))
+    (λ c. search needs) loop-again (λ c. search needs) (λ c. search needs) (λ c. search needs) (λ c. simp length-set (omega arith)) returns)

@@ -8,10 +8,5 @@ use Rattle.text.proofs.word.Tie as tie
 pub word-spec : {M : Type 1} → statement M
 word-spec =
     tie.close
-    (tie.spec
-    (λ c. no-room _ _ _ (omega arith))
-    (λ c. search needs)
-    (λ c. no-room _ _ _ (omega arith))
-    (λ c κs. search needs)
-    (λ c. search needs)
+    (tie.spec (λ c. no-room _ _ _ (omega arith)) (λ c. search needs) (λ c. no-room _ _ _ (omega arith)) (λ c κs. search needs) (λ c. search needs)
     (λ c. room _ _ _ (omega arith) (c .before .before .put-word .ensures)))

@@ -14,4 +14,7 @@ returns : tie.Need-returns
 returns c = (rw (c .record-size .ensures .0, c .before .size .ensures .0, c .before .before .sets-at .ensures .0, record-place, records-are), omega (arith, records c))
 
 pub record-at-spec : {M : Type 1} → statement M
-record-at-spec = tie.close (tie.spec (λ c κs. search needs) (λ c κs. search needs) (λ c. search needs) (λ c. search needs) (λ c κs. search needs) (λ c. omega (arith, records c)) (λ c. omega (arith, records c)) returns)
+record-at-spec =
+    tie.close
+    (tie.spec (λ c κs. search needs) (λ c κs. search needs) (λ c. search needs) (λ c. search needs) (λ c κs. search needs)
+    (λ c. omega (arith, records c)) (λ c. omega (arith, records c)) returns)

@@ -48,4 +48,8 @@ returns-4 c =
     ∙ sym (trailer-right _ (counted (f .before .before)) (summed (d .before)) (rw (d .le323 .ensures, f .sums .ensures) at (c .before .if3 .left)))
 
 pub trailer-spec : {M : Type 1} → statement M
-trailer-spec = tie.close (tie.spec (λ c. search needs) (λ c κs. search needs) (λ c. search needs) (λ c κs. search needs) returns slice-aggregate-sums sums-requires (λ c. search needs) (λ c κs. search needs) (λ c. search needs) (λ c κs. search needs) returns-2 (λ c. search needs) (λ c κs. search needs) (λ c. search needs) (λ c κs. search needs) returns-3 (λ c κs. search needs) returns-4)
+trailer-spec =
+    tie.close
+    (tie.spec (λ c. search needs) (λ c κs. search needs) (λ c. search needs) (λ c κs. search needs) returns slice-aggregate-sums sums-requires
+    (λ c. search needs) (λ c κs. search needs) (λ c. search needs) (λ c κs. search needs) returns-2 (λ c. search needs) (λ c κs. search needs)
+    (λ c. search needs) (λ c κs. search needs) returns-3 (λ c κs. search needs) returns-4)

@@ -9,4 +9,9 @@ returns-3 : tie.Need-returns-3
 returns-3 c = c .trailer .ensures ∙ sym (right-length _ (search needs) (rw (c .before .before .file-length .ensures .0) at (c .before .if2 .left)))
 
 pub whole-spec : {M : Type 1} → statement M
-whole-spec = tie.close (tie.spec (λ c κs. search needs) (λ c. c .refused .ensures ∙ sym (too-short _ (c .before .if1 .taken))) (λ c. search needs) (λ c. search needs) (λ c. search needs) (λ c κs. search needs) (λ c κs. search needs) (λ c. c .refused2 .ensures ∙ sym (wrong-length _ (search needs) (rw (c .before .before .file-length .ensures .0) at (c .before .if2 .taken)))) (λ c κs. search needs) returns-3)
+whole-spec =
+    tie.close
+    (tie.spec (λ c κs. search needs) (λ c. c .refused .ensures ∙ sym (too-short _ (c .before .if1 .taken))) (λ c. search needs) (λ c. search needs)
+    (λ c. search needs) (λ c κs. search needs) (λ c κs. search needs)
+    (λ c. c .refused2 .ensures ∙ sym (wrong-length _ (search needs) (rw (c .before .before .file-length .ensures .0) at (c .before .if2 .taken))))
+    (λ c κs. search needs) returns-3)

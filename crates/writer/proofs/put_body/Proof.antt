@@ -45,4 +45,7 @@ returns c =
     (body-stores (start .args .t) (arrays start .0) (arrays start .1) (search needs) (start .args .out .now))
 
 pub put-body-spec : {M : Type 1} → statement M
-put-body-spec = tie.close (tie.spec put-counts-requires (λ c. search needs) put-figures-requires (λ c κs. search needs) (λ c. search needs) (λ c κs. search needs) put-figures-requires-2 (λ c κs. search needs) (λ c. search needs) returns)
+put-body-spec =
+    tie.close
+    (tie.spec put-counts-requires (λ c. search needs) put-figures-requires (λ c κs. search needs) (λ c. search needs) (λ c κs. search needs)
+    put-figures-requires-2 (λ c κs. search needs) (λ c. search needs) returns)

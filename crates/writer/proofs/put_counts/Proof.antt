@@ -6,4 +6,7 @@ use Rattle.writer.proofs.put_counts.Statement.{statement}
 use Rattle.writer.proofs.put_counts.Tie as tie
 
 pub put-counts-spec : {M : Type 1} → statement M
-put-counts-spec = tie.close (tie.spec (λ c. search needs) (λ c. simp length-set (omega arith)) (λ c. simp length-set (omega arith)) (λ c. simp length-set (omega arith)) (λ c. simp length-set) (λ c. search needs))
+put-counts-spec =
+    tie.close
+    (tie.spec (λ c. search needs) (λ c. simp length-set (omega arith)) (λ c. simp length-set (omega arith)) (λ c. simp length-set (omega arith))
+    (λ c. simp length-set) (λ c. search needs))

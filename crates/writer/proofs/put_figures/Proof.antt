@@ -26,4 +26,9 @@ loop-again c =
     (search needs, search needs, rw (p .put .ensures, l .inv .2) (store-next (bytes 2) 2 (bytes-length 2) (a .out .now) (a .at) (a .figures .now) (l .i) 0 (omega arith)))
 
 pub put-figures-spec : {M : Type 1} → statement M
-put-figures-spec = tie.close (tie.spec Inv-loop μ-loop (λ c. search needs) (λ c. search needs) (λ c. search needs) (λ c. search needs) (λ c. search needs) (λ c. omega (arith, c .shared-slice-known2 .given (c .before .before .before .loop .i))) (λ c κs. search needs) (λ c. search needs) (λ c. search needs) loop-again (λ c. search needs) (λ c. let e : c .before .loop .i ≡ c .before .before .before .before .args .n = omega arith in rw e at (c .before .loop .inv .2)))
+put-figures-spec =
+    tie.close
+    (tie.spec Inv-loop μ-loop (λ c. search needs) (λ c. search needs) (λ c. search needs) (λ c. search needs) (λ c. search needs)
+    (λ c. omega (arith, c .shared-slice-known2 .given (c .before .before .before .loop .i))) (λ c κs. search needs) (λ c. search needs)
+    (λ c. search needs) loop-again (λ c. search needs)
+    (λ c. let e : c .before .loop .i ≡ c .before .before .before .before .args .n = omega arith in rw e at (c .before .loop .inv .2)))

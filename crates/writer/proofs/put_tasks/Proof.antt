@@ -44,4 +44,8 @@ loop-again c =
     (search needs, search needs, rw (p .put-task .ensures, at, l .inv .2) more)
 
 pub put-tasks-spec : {M : Type 1} → statement M
-put-tasks-spec = tie.close (tie.spec Inv-loop μ-loop (λ c κs. search needs) (λ c. search needs) (λ c. search needs) (λ c. search needs) (λ c κs. search needs) put-task-requires (λ c. search needs) (λ c. search needs) loop-again (λ c. search needs) (λ c. let e : c .before .loop .done ≡ c .before .before .before .before .args .t2 .tasks = omega arith in rw e at (c .before .loop .inv .2)))
+put-tasks-spec =
+    tie.close
+    (tie.spec Inv-loop μ-loop (λ c κs. search needs) (λ c. search needs) (λ c. search needs) (λ c. search needs) (λ c κs. search needs)
+    put-task-requires (λ c. search needs) (λ c. search needs) loop-again (λ c. search needs)
+    (λ c. let e : c .before .loop .done ≡ c .before .before .before .before .args .t2 .tasks = omega arith in rw e at (c .before .loop .inv .2)))

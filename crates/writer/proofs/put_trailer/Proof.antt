@@ -20,4 +20,8 @@ returns c =
     rw (p3 .put3 .ensures, p2 .put2 .ensures, p1 .put .ensures, s .sums .ensures) (rw long at (trailer-stores front (a .out .now) (a .e)))
 
 pub put-trailer-spec : {M : Type 1} → statement M
-put-trailer-spec = tie.close (tie.spec (λ c. search needs) (λ c. let a = c .before .before .args in sym (length-take-le (a .e) (a .out .now) (omega arith))) (λ c κs. let a = c .before .before .args in omega (arith, length-take-le (a .e) (a .out .now) (omega arith))) (λ c κs. search needs) (λ c. search needs) (λ c κs. search needs) (λ c. search needs) (λ c κs. search needs) (λ c. search needs) returns)
+put-trailer-spec =
+    tie.close
+    (tie.spec (λ c. search needs) (λ c. let a = c .before .before .args in sym (length-take-le (a .e) (a .out .now) (omega arith)))
+    (λ c κs. let a = c .before .before .args in omega (arith, length-take-le (a .e) (a .out .now) (omega arith))) (λ c κs. search needs)
+    (λ c. search needs) (λ c κs. search needs) (λ c. search needs) (λ c κs. search needs) (λ c. search needs) returns)

@@ -64,4 +64,8 @@ returns-3 c =
     rw (c .refused2 .ensures, r .put-trailer .ensures, e, p .put-body .ensures, lengths f .1, file-stores (a .t) (a .out .now) h) (room _ _ (passed (f .before)) h)
 
 pub write-spec : {M : Type 1} → statement M
-write-spec = tie.close (tie.spec (λ c κs. search needs) (λ c κs. search needs) returns (λ c κs. search needs) (λ c κs. search needs) (λ c κs. search needs) returns-2 put-body-requires (λ c. omega (arith, lengths (c .before .before .before .before .before .before))) put-trailer-requires (λ c κs. search needs) (λ c. search needs) returns-3)
+write-spec =
+    tie.close
+    (tie.spec (λ c κs. search needs) (λ c κs. search needs) returns (λ c κs. search needs) (λ c κs. search needs) (λ c κs. search needs) returns-2
+    put-body-requires (λ c. omega (arith, lengths (c .before .before .before .before .before .before))) put-trailer-requires (λ c κs. search needs)
+    (λ c. search needs) returns-3)
