@@ -24,10 +24,13 @@ given text out a b p q = both (p .length-is ∙ sym (q .length-is)) (p .bytes-ar
 pub promises : Promises
 promises = record {
   whole = λ s. only-one _;
+  check-file = λ s. only-one _;
   read = λ s. only-one _;
   view = λ s k. only-one _;
   view-refusal = λ s k. only-one _;
   write = λ t out a b p q. both (p .answered ∙ sym (q .answered)) (p .stored ∙ sym (q .stored));
+  check-board = λ t. only-one _;
+  check-tasks = λ t. only-one _;
   check = λ t. only-one _;
   judge-one = λ t k start. only-one _;
   judge-all = λ t starts. only-one _;

@@ -12,7 +12,7 @@ use Rattle.rules.specs.declared.Judged.{Judged}
 use Rattle.rules.specs.declared.AllJudged.{AllJudged}
 use Rattle.rules.specs.declared.Rejudged.{Rejudged}
 use Rattle.rules.specs.Order as Order
-use Rattle.rules.specs.Refusals.{checkTable}
+use Rattle.rules.specs.Refusals.{checkBoard, checkTasks, checkTable}
 use Rattle.rules.specs.File.{checkWhole}
 use Rattle.rules.specs.Operations.{checkFile, reading, checkView, viewing, judgeOne, judgeAll}
 use Rattle.rules.specs.Listing.{listing}
@@ -29,13 +29,16 @@ abbrev pub Exact : {A : Type 0} → (A → Type 0) → Type 0
 Exact {A} allowed = (a b : A) → allowed a → allowed b → a ≡ b
 
 pub record Promises : Type 0 where
-  -- file
+  -- whole, file and writer
   pub whole : (s : List ℕ) → Exact (λ (r : Refusal). r ≡ checkWhole s)
+  pub check-file : (s : List ℕ) → Exact (λ (r : Refusal). r ≡ checkFile s)
   pub read : (s : List ℕ) → Exact (λ (r : Read). r ≡ reading s)
   pub view : (s : List ℕ) (k : ℕ) → Exact (λ (part : List ℕ). part ≡ viewing s k)
   pub view-refusal : (s : List ℕ) (k : ℕ) → Exact (λ (r : Refusal). r ≡ checkView s k)
   pub write : (t : Table) (out : List ℕ) → Exact (λ (r : Written × List ℕ). Wrote t out (r .0) (r .1))
-  -- table
+  -- checks
+  pub check-board : (t : Table) → Exact (λ (r : Refusal). r ≡ checkBoard t)
+  pub check-tasks : (t : Table) → Exact (λ (r : Refusal). r ≡ checkTasks t)
   pub check : (t : Table) → Exact (λ (r : Refusal). r ≡ checkTable t)
   -- judge
   pub judge-one : (t : Table) (k start : ℕ) → Exact (λ (r : Judged). r ≡ judgeOne t k start)
