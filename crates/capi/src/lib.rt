@@ -7,7 +7,6 @@ ghost use mathlib.Core.Path.{_≡_};
 ghost use Prim.Native.Nat.{_≤_};
 ghost use lib.ListN.{set, take};
 ghost use Rattle.laws.specs.Idioms.{filled};
-ghost use Rattle.rules.specs.Judgement.{boundOf};
 ghost use Rattle.rules.specs.Operations.{checkFile};
 ghost use Rattle.rules.specs.Listing.{listing};
 ghost use Rattle.text.specs.Put.{Given};
@@ -23,15 +22,6 @@ fn code(refusal: Refusal) -> u16
         return 0;
     }
     (refusal.number as u16) + 256 * (refusal.place as u16)
-}
-
-fn bound_of(verdict: Verdict) -> u64
-    ensures { λ r. ⌜ r ≡ boundOf verdict ⌝ }
-{
-    match verdict {
-        Verdict::Misses => 0,
-        Verdict::Holds(bound, _) => bound.0,
-    }
 }
 
 fn by_number(verdict: Verdict) -> u8
@@ -78,7 +68,7 @@ fn store_answers(
     while i < n {
         let answer = answers[i];
         let verdict = answer.verdict;
-        store(bounds, i, bound_of(verdict));
+        store(bounds, i, judge::bound_of(verdict));
         store(rounds, i, answer.rounds);
         store_byte(by, i, by_number(verdict));
         i += 1;

@@ -14,7 +14,7 @@ use Rattle.laws.specs.Bytes.{Bytes}
 use Rattle.rules.proofs.EveryRule.{every-rule}
 use Rattle.rules.proofs.Reading.{file-whole, decoded-accepted, read-table, read-accepted}
 use Rattle.claims.specs.Files.{AcceptedFile, AcceptedTable, Damage, Shape, cleared, Return, ReturnInPlace, OneToOne, NotEmpty}
-use Rattle.claims.proofs.Whole.{Whole, whole, came-whole}
+use Rattle.whole.proofs.Came.{Whole, whole, came-whole}
 use Rattle.claims.proofs.Damage.{not-cut, not-altered}
 use Rattle.claims.proofs.FromFile.{already-cleared, shape-of-read, written-again}
 use Rattle.claims.proofs.FromTable.{file-small, encode-whole, read-again}

@@ -15,7 +15,8 @@ use Rattle.laws.proofs.Runs.{length-map-from}
 use Rattle.laws.proofs.Filled.{filled-length, take-filled}
 use Rattle.laws.proofs.Rows.{written-back}
 use Rattle.claims.proofs.Codes.{number-code, task-code}
-use Rattle.claims.proofs.Whole.{Whole, before, before-and-trailer}
+use Rattle.whole.proofs.Came.{Whole}
+use Rattle.claims.proofs.Whole.{before, before-and-trailer}
 use Rattle.claims.proofs.Places.{header, figureBytes, setBytes, taskBytes, body-parts, figure-ladder, set-ladder, record-ladder, records-after-sets, trailer-after-records, parts-joined}
 
 header-bytes : (l : List ℕ) → 4 ≤ length l → coresIn l ∷ partitionsIn l ∷ tasksIn l ∷ formIn l ∷ [] ≡ take 4 l

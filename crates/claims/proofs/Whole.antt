@@ -1,65 +1,22 @@
 -- A file that came whole: what refusals 1 to 4 leave of a file, and that such a file is what stands before its trailer and the
 -- trailer of that. Assumes nothing.
 use mathlib.Core.Path.{_≡_, refl, sym}
-use mathlib.Core.Bool.{Bool, true, false, not}
 use mathlib.Core.List.{List, _++_}
 use Prim.Native.Nat.{ℕ, _+_, _-_, _^_, _≤_, _<_}
 use native.Mathlib.Omega.{arith}
-use lib.Dec.{eqb}
 use lib.ListN.{length, take, drop, take-append-drop, length-append, length-drop}
 use lib.Seq.{take-all, take-at, length-take-le, drop-append-add}
-use borrow.Author.Tests.{ltb-false, le-ltb, eqb-true, eq-eqb, not-false}
-use Rattle.rules.specs.File.{checkTrailer, fileLength, coresIn, tasksIn, formIn, sumOf, runningSum, trailer, checkWhole}
-use Rattle.rules.specs.Chain.{accepted, isAccepted, given, _orElse_}
-use Rattle.rules.proofs.Chain.{both-accepted, no-fault}
+use Rattle.rules.specs.File.{fileLength, coresIn, tasksIn, formIn, sumOf, runningSum, trailer}
 use Rattle.laws.specs.Idioms.{number, bytes, part}
 use Rattle.laws.specs.Bytes.{Bytes}
 use Rattle.laws.proofs.Bytes.{number-bytes}
-use Rattle.laws.proofs.Tests.{or-neither}
 use Rattle.laws.proofs.ByteLists.{part-join, part-known}
+use Rattle.whole.proofs.Came.{Whole}
 use Rattle.claims.proofs.ByteSums.{sum-fits, running-fits}
-
-pub record Whole (s : List ℕ) : Type 0 where
-  pub long : 46 ≤ length s
-  pub sized : length s ≡ fileLength (formIn s) (coresIn s) (tasksIn s)
-  pub counted : number (part s (length s - 12) 4) ≡ length s - 12
-  pub summed : number (part s (length s - 8) 4) ≡ sumOf (take (length s - 12) s)
-  pub resummed : number (part s (length s - 4) 4) ≡ runningSum (take (length s - 12) s)
 
 -- what stands before the trailer
 abbrev pub before : List ℕ → List ℕ
 before s = take (length s - 12) s
-
--- two links and two more that give none
-no-faults : (a b c d : Bool) → isAccepted (given 1 0 a orElse given 2 0 b orElse (given 3 0 c orElse given 4 0 d)) ≡ true
-    → ((a ≡ false) × (b ≡ false)) × ((c ≡ false) × (d ≡ false))
-no-faults a b c d e =
-    let (front, back) = both-accepted (given 1 0 a orElse given 2 0 b) (given 3 0 c orElse given 4 0 d) e in
-    let (one, two) = both-accepted (given 1 0 a) (given 2 0 b) front in
-    let (three, four) = both-accepted (given 3 0 c) (given 4 0 d) back in
-    ((no-fault 0 0 a one, no-fault 1 0 b two), (no-fault 2 0 c three, no-fault 3 0 d four))
-
-equal : (a b : ℕ) → not (eqb a b) ≡ false → a ≡ b
-equal a b e = eqb-true a b (not-false (eqb a b) e)
-
-module _ (s : List ℕ) where
-  pub whole : isAccepted (checkWhole s) ≡ true → Whole s
-  unfolding checkWhole checkTrailer
-  whole e =
-      let none = no-faults _ _ _ _ e in
-      let sums = or-neither _ _ (none .1 .1) in
-      record {
-        long = ltb-false _ _ (none .0 .0);
-        sized = equal _ _ (none .0 .1);
-        counted = equal _ _ (none .1 .0);
-        summed = equal _ _ (sums .0);
-        resummed = equal _ _ (sums .1);
-      }
-
-  pub came-whole : Whole s → checkWhole s ≡ accepted
-  unfolding checkWhole checkTrailer
-  came-whole w =
-      rw (le-ltb (length s) 46 (w .long), eq-eqb _ _ (w .sized), eq-eqb _ _ (w .counted), eq-eqb _ _ (w .summed), eq-eqb _ _ (w .resummed))
 
 module _ {s : List ℕ} (b : Bytes s) (w : Whole s) where
   stored : (at v : ℕ) → at + 4 ≤ length s → number (part s at 4) ≡ v → bytes 4 v ≡ part s at 4

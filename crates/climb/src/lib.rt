@@ -1,6 +1,6 @@
 // F without overflow and its rounds, of plain terms: the tasks of all cores, core after core.
 ghost use mathlib.Core.Path.{_≡_};
-ghost use Prim.Native.Nat.{_*_, _^_, _≤_, min, max};
+ghost use Prim.Native.Nat.{_*_, _^_, _≤_, min};
 ghost use Rattle.laws.specs.Idioms.{Within};
 ghost use Rattle.rules.specs.Tasks as Tasks;
 ghost use Rattle.climb.specs.Terms.{Counted, Small, Slots, Charged, Groups, Delayed, Fair, termsOf, applied, askedBy};
@@ -204,12 +204,6 @@ fn apply(
     }
 }
 
-fn larger(a: u64, b: u64) -> u64
-    ensures { λ r. ⌜ r ≡ max a b ⌝ }
-{
-    if a < b { b } else { a }
-}
-
 // Whether F lowers the start that the rounds use, and the answer.
 pub struct Climbed {
     pub high: bool,
@@ -243,7 +237,7 @@ pub fn settle(
     requires { ⌜ Ready (termsOf own (now from) (now periods) (now execs) (now asks)) given ⌝ }
     ensures { λ r. ⌜ r ≡ climbed (termsOf own (now (from .entry)) (now (periods .entry)) (now (execs .entry)) (now (asks .entry))) given ⌝ }
 {
-    let mut t = larger(lowest(own), given);
+    let mut t = rules::most(lowest(own), given);
     let mut n: u64 = 1;
     loop {
         let next = apply(own, from, periods, invs, execs, asks, t);

@@ -1,6 +1,6 @@
 // Document 01's delay figures as code: in cycles, then times tCK.
 ghost use mathlib.Core.Path.{_≡_};
-ghost use Prim.Native.Nat.{_+_, _-_, _*_, _/_, _<_, _≤_, _^_, min, max};
+ghost use Prim.Native.Nat.{_+_, _-_, _*_, _/_, _<_, _≤_, _^_, min};
 ghost use lib.ListN.{getD};
 ghost use Rattle.laws.specs.Idioms.{_⊖_, larger};
 ghost use Rattle.rules.specs.Timing.{tCK, CL, WL, BL, tWTR, ddr3-1333};
@@ -10,6 +10,7 @@ ghost use Rattle.rules.specs.Sound.{SoundRow};
 ghost use Rattle.delays.specs.Figures.{figuresOf};
 use rules::Cycles;
 use rules::Picos;
+use rules::most;
 
 // "The DDR3-1333 row is supplied."
 pub const DDR3_1333: [u16; 15] = [1500, 9, 9, 9, 7, 8, 5, 10, 4, 20, 24, 5, 2, 1024, 65535];
@@ -68,12 +69,6 @@ fn less(a: u64, b: u64) -> u64
     ensures { λ r. ⌜ r ≡ a - b ⌝ }
 {
     if a < b { 0 } else { a - b }
-}
-
-pub fn most(a: u64, b: u64) -> u64
-    ensures { λ r. ⌜ r ≡ max a b ⌝ }
-{
-    if a < b { b } else { a }
 }
 
 fn least(a: u64, b: u64) -> u64

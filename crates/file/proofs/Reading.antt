@@ -19,7 +19,7 @@ use Rattle.rules.proofs.Accepted.{sound}
 use Rattle.rules.proofs.Reading.{file-whole, decoded-accepted}
 use Rattle.file.specs.Places.{Sized}
 use Rattle.file.specs.Answers.{readNothing}
-use Rattle.whole.proofs.Checks.{whole-long, whole-length}
+use Rattle.whole.proofs.Came.{whole}
 
 -- 5 is given from the counts alone
 and-false : (a : Bool) → a && false ≡ false
@@ -38,7 +38,7 @@ module _ (s : List ℕ) where
 
   module _ (came : isAccepted (checkWhole s) ≡ true) where
     pub whole-sized : Sized s
-    whole-sized = record { long = whole-long s came; sized = whole-length s came }
+    whole-sized = let w = whole s came in record { long = w .long; sized = w .sized }
 
     by-table : checkFile s ≡ checkTable (decode s)
     unfolding checkFile

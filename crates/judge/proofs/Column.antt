@@ -1,15 +1,12 @@
 -- A column of a list, filled place by place. Assumes nothing.
 use mathlib.Core.Path.{_≡_, refl}
-use mathlib.Core.List.{List, [], _∷_, _++_, map}
+use mathlib.Core.List.{List, map}
 use Prim.Native.Nat.{ℕ, _+_, _<_}
 use native.Mathlib.Numerals.{add-one}
 use native.Mathlib.Omega.{arith}
 use lib.ListN.{length, length-set, take, getD, set}
 use lib.Seq.{take-suc, take-suc-set}
-
-map-snoc : {A : Type 0} (f : A → ℕ) (l : List A) (x : A) → map f (l ++ (x ∷ [])) ≡ map f l ++ (f x ∷ [])
-map-snoc f [] x = refl
-map-snoc f (y ∷ l) x = rw (map-snoc f l x)
+use Rattle.laws.proofs.Runs.{map-snoc}
 
 -- the first i places of an array with so much room
 pub record Column {A : Type 0} (f : A → ℕ) (l : List A) (room i : ℕ) (out : List ℕ) : Type 0 where

@@ -3,6 +3,7 @@ ghost use mathlib.Core.Path.{_≡_};
 ghost use mathlib.Core.Bool.{true};
 ghost use lib.ListN.{length};
 ghost use Rattle.laws.specs.Idioms.{entry};
+ghost use Rattle.rules.specs.Judgement.{boundOf};
 ghost use Rattle.rules.specs.Order as Order;
 ghost use Rattle.rules.specs.Order.{worseTask, sameBoard};
 ghost use Rattle.rules.specs.Refusals.{checkTable, checkJudged, checkStart};
@@ -10,7 +11,7 @@ ghost use Rattle.rules.specs.Operations.{judgeOne, judgeAll, answersFrom};
 ghost use Rattle.rounds.specs.Numbered.{notJudged};
 ghost use Rattle.judge.specs.Same.{alikeTo, allWorse};
 ghost use Rattle.rules.specs.Chain.{isAccepted};
-ghost use Rattle.judge.specs.Carried.{startOf, olderStarts, AllAllowed, notRejudged, Carried};
+ghost use Rattle.judge.specs.Carried.{olderStarts, AllAllowed, notRejudged, Carried};
 use rules::AllJudged;
 use rules::Answer;
 use rules::Judged;
@@ -204,13 +205,13 @@ fn answers(table: Table, starts: [u64; 32]) -> [Answer; 32]
     all
 }
 
-fn start_of(answer: Answer) -> u64
-    ensures { λ r. ⌜ r ≡ startOf answer ⌝ }
+// Its bound, or 0 where it misses.
+pub fn bound_of(verdict: Verdict) -> u64
+    ensures { λ r. ⌜ r ≡ boundOf verdict ⌝ }
 {
-    let verdict = answer.verdict;
     match verdict {
-        Verdict::Holds(bound, _) => bound.0,
         Verdict::Misses => 0,
+        Verdict::Holds(bound, _) => bound.0,
     }
 }
 
@@ -225,7 +226,8 @@ fn older_starts(older: Table) -> [u64; 32]
     let mut i: usize = 0;
     while i < 32 {
         let answer = all[i];
-        starts[i] = start_of(answer);
+        let verdict = answer.verdict;
+        starts[i] = bound_of(verdict);
         i += 1;
     }
     starts

@@ -21,7 +21,7 @@ below-next zero = refl
 below-next (suc n) = rw (add-one (suc n)) (ap {B = List ℕ} (λ l. 0 ∷ l) (rw (add-one n) at (upTo-next n)))
 
 module _ {A B : Type 0} (f : A → B) where
-  map-snoc : (xs : List A) (x : A) → map f (xs ++ (x ∷ [])) ≡ map f xs ++ (f x ∷ [])
+  pub map-snoc : (xs : List A) (x : A) → map f (xs ++ (x ∷ [])) ≡ map f xs ++ (f x ∷ [])
   map-snoc [] x = refl
   map-snoc (y ∷ xs) x = ap {B = List B} (λ l. f y ∷ l) (map-snoc xs x)
 

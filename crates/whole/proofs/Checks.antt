@@ -1,14 +1,12 @@
 -- Refusals 1 to 4 one at a time: what each of the tests, in their order, makes of a file. Assumes nothing.
 use mathlib.Core.Path.{_≡_}
-use mathlib.Core.Bool.{true}
 use mathlib.Core.List.{List}
-use Prim.Native.Nat.{ℕ, suc, _-_, _<_, _≤_}
-use native.Mathlib.Omega.{arith}
+use Prim.Native.Nat.{ℕ, _-_, _<_, _≤_}
 use lib.ListN.{length, take}
-use borrow.Author.Tests.{lt-ltb, le-ltb, eq-eqb, ne-eqb, eqb-true}
+use borrow.Author.Tests.{lt-ltb, le-ltb, eq-eqb, ne-eqb}
 use Rattle.laws.specs.Idioms.{number, part}
 use Rattle.rules.specs.File.{fileLength, coresIn, tasksIn, formIn, sumOf, runningSum, checkWhole, checkTrailer}
-use Rattle.rules.specs.Chain.{accepted, refused, isAccepted}
+use Rattle.rules.specs.Chain.{accepted, refused}
 
 module _ (s : List ℕ) where
   pub too-short : length s < 46 → checkWhole s ≡ refused 1 0
@@ -40,17 +38,3 @@ module _ (s : List ℕ) where
       pub trailer-right : number (part s (length s - 4) 4) ≡ runningSum (take (length s - 12) s) → checkTrailer s ≡ accepted
       unfolding checkTrailer
       trailer-right e = rw (eq-eqb _ _ counted, eq-eqb _ _ summed, eq-eqb _ _ e)
-
-  -- what a whole file is known to be
-  module _ (came : isAccepted (checkWhole s) ≡ true) where
-    never : (n : ℕ) → checkWhole s ≡ refused (suc n) 0 → ⊥
-    never n e = omega (arith, eqb-true (suc n) 0 (rw e at came))
-
-    pub whole-long : 46 ≤ length s
-    whole-long = let short : length s < 46 → ⊥ = λ h. never 0 (too-short h) in omega arith
-
-    pub whole-length : length s ≡ fileLength (formIn s) (coresIn s) (tasksIn s)
-    whole-length =
-        let low : length s < fileLength (formIn s) (coresIn s) (tasksIn s) → ⊥ = λ h. never 1 (wrong-length whole-long (λ e. omega arith)) in
-        let high : fileLength (formIn s) (coresIn s) (tasksIn s) < length s → ⊥ = λ h. never 1 (wrong-length whole-long (λ e. omega arith)) in
-        omega arith

@@ -31,7 +31,7 @@ pub settle-spec : {M : Type 1} → statement M
 settle-spec =
     tie.close
     (tie.spec Inv-loop μ-loop (λ c κs. search needs) (λ c κs. search needs)
-    (λ c. rw (c .larger .ensures, c .before .lowest .ensures) (going-first _ _ (c .before .before .pre .1) refl))
+    (λ c. rw (c .most .ensures, c .before .lowest .ensures) (going-first _ _ (c .before .before .pre .1) refl))
     (λ c κs. let p = c .before .before .before .pre in ((omega (arith, c .loop .inv .fits, p .1 .latest-high), p .0), p .1 .fair))
     (λ c. last-holds _ _ (c .before .before .before .before .before .before .pre .1) refl (c .before .before .before .loop .inv) (c .before .before .apply .ensures) (search needs))
     (λ c κs. search needs) returns-2 (λ c κs. search needs) returns-3

@@ -33,7 +33,7 @@ loop-again : tie.Need-loop-again Inv-loop μ-loop
 loop-again c =
     let turn = c .before .before .before in
     let long = all-long (turn .before) in
-    (search needs, rw (c .start-of .ensures) (column-next (misses 0) (turn .loop .inv .1) (omega arith) (omega arith)))
+    (search needs, rw (c .bound-of .ensures) (column-next (misses 0) (turn .loop .inv .1) (omega arith) (omega arith)))
 
 returns : tie.Need-returns Inv-loop μ-loop
 unfolding olderStarts
