@@ -20,7 +20,7 @@ came : (c : tie.Else1) → isAccepted (checkWhole (c .before .before .before .be
 came c = rw (c .before .before .whole .ensures) at (eq-eqb _ _ (c .if1 .left))
 
 returns-2 : tie.Need-returns-2
-returns-2 c = c .refused .ensures ∙ counted-out _ (came (c .before .before .before)) (c .before .if2 .taken)
+returns-2 c = c .refused .ensures ∙ counted-out _ (came (c .before .before .before)) (omega (arith, c .before .if2 .taken))
 
 board-in-requires : tie.Need-board-in-requires
 board-in-requires c κs = (omega (arith, c .if2 .left), whole-sized _ (came (c .before .before)))
