@@ -1,74 +1,74 @@
--- The tasks of a sound table, core after core: how many they are. Assumes nothing.
-use mathlib.Core.Path.{_≡_, refl, sym, ap, _∙_}
+-- The places of the tasks, core after core: they are no more than the tasks. Assumes nothing.
+use mathlib.Core.Path.{_≡_, refl, ap}
 use mathlib.Core.Bool.{cond}
-use mathlib.Core.List.{List, [], _∷_, _++_, append-nil, append-assoc}
-use Prim.Native.Nat.{ℕ, zero, suc, _+_, _≤_}
+use mathlib.Core.List.{List, [], _++_, append-nil, append-assoc}
+use Prim.Native.Nat.{ℕ, zero, suc, _+_, _≤_, _<_}
 use native.Mathlib.Numerals.{add-one}
-use native.Mathlib.Decide.{decLe}
+use native.Mathlib.Decide.{decLe, ℕ-discrete}
 use native.Mathlib.Omega.{arith}
-use lib.ListN.{length, length-append}
-use lib.Seq.{length-take-le}
-use Rattle.rules.specs.declared.Task.{Task}
-use Rattle.rules.specs.declared.Table.{Table}
-use Rattle.rules.specs.Tasks.{tasksOf, isOn, tasksOn}
-use Rattle.rules.specs.Sound.{Sound}
-use Rattle.laws.specs.Idioms.{sumOver, those, from, upTo}
-use Rattle.laws.proofs.Sums.{sum-append, upTo-next}
-use Rattle.laws.proofs.Linear.{sum-same, sum-those, sum-swap, sum-only}
-use Rattle.rules.proofs.SoundTasks.{sound-all, tasks-there}
+use lib.Dec.{eqb}
+use lib.ListN.{length, length-append, getD}
+use borrow.Author.Tests.{eq-eqb, ne-eqb}
+use Rattle.groups.specs.Grouped.{placesOn}
+use Rattle.groups.proofs.PlacesOn.{places-none, count-next}
 
--- the tasks of cores 1 to n
-unfoldable pub byCore : Table → ℕ → List Task
-byCore t zero = []
-byCore t (suc n) = byCore t n ++ tasksOn t (suc n)
+module _ (core : List ℕ) where
+  -- those of cores 1 to q
+  unfoldable pub byCore : ℕ → ℕ → List ℕ
+  byCore n zero = []
+  byCore n (suc q) = byCore n q ++ placesOn core (suc q) n
 
-pub by-core-next : (t : Table) (n : ℕ) → byCore t (n + 1) ≡ byCore t n ++ tasksOn t (n + 1)
-unfolding byCore
-by-core-next t n = rw (add-one n)
-
--- ---- they are as many as there are tasks
-
-length-sum : {A : Type 0} (l : List A) → length l ≡ sumOver l (λ x. 1)
-length-sum [] = refl
-length-sum (x ∷ l) = omega (arith, length-sum l)
-
-module _ (t : Table) where
-  by-core-none : length (byCore t 0) ≡ sumOver (upTo 0) (λ q. length (tasksOn t q))
-  unfolding byCore from
-  by-core-none = refl
-
-  by-core-sum : (n : ℕ) → length (byCore t n) ≡ sumOver (upTo n) (λ q. length (tasksOn t q))
-  by-core-sum zero = by-core-none
-  by-core-sum (suc n) = rw (← add-one n, by-core-next t n, length-append, upTo-next n, sum-append) (omega (arith, by-core-sum n))
-
-  count-on : (q : ℕ) → length (tasksOn t q) ≡ sumOver (tasksOf t) (λ j. cond (isOn q j) 1 0)
-  unfolding tasksOn
-  count-on q = length-sum (those (isOn q) (tasksOf t)) ∙ sum-those (isOn q) (λ j. 1) (tasksOf t)
-
-  -- the cores up to n, and the others
-  pub by-core-split : (q n : ℕ) → q ≤ n → (rest : List Task) × (byCore t n ≡ byCore t q ++ rest)
+  pub by-core-none : (n : ℕ) → byCore n 0 ≡ []
   unfolding byCore
-  by-core-split zero zero h = ([], refl)
-  by-core-split (suc q) zero h = absurd (omega arith)
-  by-core-split q (suc n) h = go (decLe q n) (by-core-split q n)
+  by-core-none n = refl
+
+  pub by-core-next : (n q : ℕ) → byCore n (q + 1) ≡ byCore n q ++ placesOn core (q + 1) n
+  unfolding byCore
+  by-core-next n q = rw (add-one q)
+
+  pub by-core-long : (n q : ℕ) → length (byCore n (q + 1)) ≡ length (byCore n q) + length (placesOn core (q + 1) n)
+  by-core-long n q = rw (by-core-next n q, length-append)
+
+  -- the cores up to q, and the others
+  pub by-core-split : (n p q : ℕ) → p ≤ q → (rest : List ℕ) × (byCore n q ≡ byCore n p ++ rest)
+  unfolding byCore
+  by-core-split n zero zero h = ([], refl)
+  by-core-split n (suc p) zero h = absurd (omega arith)
+  by-core-split n p (suc q) h = go (decLe p q) (by-core-split n p q)
     where
-      go : Dec (q ≤ n) → (q ≤ n → (rest : List Task) × (byCore t n ≡ byCore t q ++ rest)) → (rest : List Task) × (byCore t (suc n) ≡ byCore t q ++ rest)
+      go : Dec (p ≤ q) → (p ≤ q → (rest : List ℕ) × (byCore n q ≡ byCore n p ++ rest)) → (rest : List ℕ) × (byCore n (suc q) ≡ byCore n p ++ rest)
       go (yes l) rec =
           let r = rec l in
-          (r .0 ++ tasksOn t (suc n), rw (r .1) (append-assoc (byCore t q) (r .0) (tasksOn t (suc n))))
-      go (no l) rec = let e : q ≡ suc n = omega (arith, l) in ([], rw (e, append-nil))
+          (r .0 ++ placesOn core (suc q) n, rw (r .1) (append-assoc (byCore n p) (r .0) (placesOn core (suc q) n)))
+      go (no l) rec = let e : p ≡ suc q = omega (arith, l) in ([], rw (e, append-nil))
 
-  module _ (s : Sound t) where
-    by-core-all : length (byCore t (t .cores)) ≡ length (tasksOf t)
-    by-core-all =
-        by-core-sum (t .cores)
-        ∙ sum-same _ _ (upTo (t .cores)) (λ q m. count-on q)
-        ∙ sum-swap (λ q j. cond (isOn q j) 1 0) (upTo (t .cores)) (tasksOf t)
-        ∙ sum-same _ _ (tasksOf t) (λ j m. let core = sound-all t s m .core-in in sum-only (λ q. 1) (j .core) (t .cores) (core .low) (core .high))
-        ∙ sym (length-sum (tasksOf t))
+  -- one task more is one place more, at its core
+  record OneMore (n q : ℕ) : Type 0 where
+    most : length (byCore (n + 1) q) ≤ length (byCore n q) + 1
+    none : q < getD core n 0 → length (byCore (n + 1) q) ≡ length (byCore n q)
 
-    pub by-core-few : (q : ℕ) → q ≤ t .cores → length (byCore t q) ≤ 32
-    by-core-few q h =
-        let r = by-core-split q (t .cores) h in
-        let e : length (byCore t (t .cores)) ≡ length (byCore t q) + length (r .0) = ap length (r .1) ∙ simp length-append in
-        omega (arith, by-core-all, length-take-le (t .tasks) (t .task) (tasks-there t s), s .tasks-in .high)
+  one-more : (n q : ℕ) → OneMore n q
+  one-more n zero = record { most = rw (by-core-none n, by-core-none (n + 1)) (omega arith); none = λ h. rw (by-core-none n, by-core-none (n + 1)) }
+  one-more n (suc q) = rw (← add-one q) (go (one-more n q) (ℕ-discrete (getD core n 0) (q + 1)))
+    where
+      go : OneMore n q → Dec (getD core n 0 ≡ q + 1) → OneMore n (q + 1)
+      go rec (yes is) =
+          let one = rw (eq-eqb (getD core n 0) (q + 1) is) at (count-next core (q + 1) n) in
+          record {
+            most = omega (arith, by-core-long n q, by-core-long (n + 1) q, one, rec .none (omega (arith, is)));
+            none = λ h. absurd (omega (arith, is));
+          }
+      go rec (no other) =
+          let same = rw (ne-eqb (getD core n 0) (q + 1) other) at (count-next core (q + 1) n) in
+          record {
+            most = omega (arith, by-core-long n q, by-core-long (n + 1) q, same, rec .most);
+            none = λ h. omega (arith, by-core-long n q, by-core-long (n + 1) q, same, rec .none (omega arith));
+          }
+
+  none-yet : (q : ℕ) → length (byCore 0 q) ≡ 0
+  none-yet zero = ap length (by-core-none 0)
+  none-yet (suc q) = rw (← add-one q) (omega (arith, by-core-long 0 q, none-yet q, ap length (places-none core (q + 1))))
+
+  pub by-core-few : (n q : ℕ) → length (byCore n q) ≤ n
+  by-core-few zero q = omega (arith, none-yet q)
+  by-core-few (suc n) q = rw (← add-one n) (omega (arith, one-more n q .most, by-core-few n q))

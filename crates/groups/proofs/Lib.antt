@@ -1,9 +1,9 @@
--- The laws that the proofs of this crate, and of those over it, cite.
---     Gather  what a loop gathers of a list, place by place
---     Places  places are counted from 0, tasks from 1
---     ByCore  the tasks, core after core, and how many they are
---     Laid    the arrays as a loop over the cores fills them
-pub mod Gather
-pub mod Places
+-- The laws that the proofs of this crate cite.
+--     PlacesOn  the places on a core, as a loop over the tasks meets them
+--     ByCore    those of all cores, core after core: no more than the tasks
+--     InTurn    as a loop over the cores writes them
+--     Rows      a figure of the tasks in that order
+pub mod PlacesOn
 pub mod ByCore
-pub mod Laid
+pub mod InTurn
+pub mod Rows

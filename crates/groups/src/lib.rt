@@ -1,12 +1,9 @@
-// The tasks of an accepted table laid out core after core, in arrays of T, C and H.
+// The first tasks of a table laid out core after core: in which order they stand, and their figures in that order.
 ghost use mathlib.Core.Path.{_≡_};
 ghost use lib.Dec.{eqb};
-ghost use lib.ListN.{length, replicate};
+ghost use lib.ListN.{length, getD};
 ghost use Prim.Native.Nat.{_+_, _≤_, _<_};
-ghost use Rattle.rules.specs.Sound.{Sound};
-ghost use Rattle.rules.specs.Tasks.{tasksOn, higher};
-ghost use Rattle.groups.specs.Grouped.{OneIf, Joined, Grouped};
-use rules::Table;
+ghost use Rattle.groups.specs.Grouped.{OneIf, Low, Joined, Ordered, InOrder, placesOn};
 
 fn same(a: u8, b: u8) -> usize
     ensures { λ r. ⌜ OneIf (eqb a b) r ⌝ }
@@ -14,71 +11,64 @@ fn same(a: u8, b: u8) -> usize
     if a == b { 1 } else { 0 }
 }
 
-// T, C and H of the tasks on core q, after the m places that are taken. Each is written at the next place, which counts only where the core is q.
-fn group(
-    t: Table,
-    q: u8,
-    m: usize,
-    spans: &mut [u64; 33],
-    costs: &mut [u64; 33],
-    asks: &mut [u64; 33],
-) -> usize
-    requires { ⌜ Sound t ⌝ }
-    requires { ⌜ m + length (tasksOn t q) ≤ 32 ⌝ }
-    requires { ⌜ (length (now spans) ≡ 33) × (length (now costs) ≡ 33) × (length (now asks) ≡ 33) ⌝ }
-    ensures { λ r. ⌜ Joined t q m r (now (spans .entry)) (now (spans .exit)) (now (costs .entry)) (now (costs .exit)) (now (asks .entry)) (now (asks .exit)) ⌝ }
+// The places of the tasks on core q, after the m that are taken. Each is written at the next place, which counts only where the core is q.
+fn group(n: usize, q: u8, m: usize, core: &[u8; 32], order: &mut [usize; 33]) -> usize
+    requires { ⌜ (n ≤ 32) × (m + length (placesOn (now core) q n) ≤ 32) ⌝ }
+    requires { ⌜ Low (now order) ⌝ }
+    ensures { λ r. ⌜ Joined (placesOn (now (core .entry)) q n) m r (now (order .entry)) (now (order .exit)) ⌝ }
 {
-    let tasks = t.tasks as usize;
-    let mut n = m;
+    let mut at = m;
     let mut i: usize = 0;
-    while i < tasks {
-        let task = t.task[i];
-        spans[n] = task.period.0;
-        costs[n] = task.exec.0;
-        asks[n] = task.requests as u64;
-        n += same(task.core, q);
+    while i < n {
+        order[at] = i;
+        at += same(core[i], q);
         i += 1;
     }
-    n
+    at
 }
 
-// The tasks of every core, core after core, and where each begins.
-pub fn grouped(
-    table: Table,
-    from: &mut [usize; 9],
-    spans: &mut [u64; 33],
-    costs: &mut [u64; 33],
-    asks: &mut [u64; 33],
-)
-    requires { ⌜ Sound table ⌝ }
-    requires { ⌜ now from ≡ replicate 9 0 ⌝ }
-    requires { ⌜ (length (now spans) ≡ 33) × (length (now costs) ≡ 33) × (length (now asks) ≡ 33) ⌝ }
-    ensures { λ r. ⌜ Grouped table (now (from .exit)) (now (spans .exit)) (now (costs .exit)) (now (asks .exit)) ⌝ }
+// The places of the tasks of every core, core after core; and where each core's begin.
+pub fn grouped(n: usize, cores: usize, core: &[u8; 32], order: &mut [usize; 33]) -> [usize; 9]
+    requires { ⌜ (n ≤ 32) × (cores ≤ 8) ⌝ }
+    requires { ⌜ Low (now order) ⌝ }
+    ensures { λ r. ⌜ Ordered cores n (now (core .entry)) r (now (order .exit)) ⌝ }
 {
-    let cores = table.cores as usize;
+    let mut from = [0usize; 9];
     let mut m: usize = 0;
     let mut q: usize = 0;
     while q < cores {
-        m = group(table, (q as u8) + 1, m, spans, costs, asks);
+        m = group(n, (q as u8) + 1, m, core, order);
         from[q + 1] = m;
         q += 1;
     }
+    from
+}
+
+// A figure of the first n tasks, in that order.
+pub fn in_order(n: usize, order: &[usize; 33], lane: &[u64; 32]) -> [u64; 33]
+    requires { ⌜ (n ≤ 32) × Low (now order) ⌝ }
+    ensures { λ r. ⌜ InOrder n (now (order .entry)) (now (lane .entry)) r ⌝ }
+{
+    let mut out = [0u64; 33];
+    let mut k: usize = 0;
+    while k < n {
+        out[k] = lane[order[k]];
+        k += 1;
+    }
+    out
 }
 
 // Where the task in place k stands, when the first of its core stands at `first`: after its higher tasks.
-pub fn place(table: Table, k: usize, first: usize) -> usize
-    requires { ⌜ Sound table ⌝ }
-    requires { ⌜ (k < table .tasks) × (first ≤ 32) ⌝ }
-    ensures { λ r. ⌜ r ≡ first + length (higher table (k + 1)) ⌝ }
+pub fn place(k: usize, first: usize, core: &[u8; 32]) -> usize
+    requires { ⌜ (k < 32) × (first ≤ 32) ⌝ }
+    ensures { λ r. ⌜ r ≡ first + length (placesOn (now (core .entry)) (getD (now (core .entry)) k 0) k) ⌝ }
 {
-    let own = table.task[k];
-    let core = own.core;
-    let mut n = first;
+    let own = core[k];
+    let mut at = first;
     let mut i: usize = 0;
     while i < k {
-        let task = table.task[i];
-        n += same(task.core, core);
+        at += same(core[i], own);
         i += 1;
     }
-    n
+    at
 }

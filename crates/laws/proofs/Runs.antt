@@ -15,7 +15,7 @@ unfolding from
 length-from a zero = refl
 length-from a (suc n) = ap suc (length-from (a + 1) n)
 
-below-next : (n : ℕ) → below (n + 1) ≡ below n ++ (n ∷ [])
+pub below-next : (n : ℕ) → below (n + 1) ≡ below n ++ (n ∷ [])
 unfolding from
 below-next zero = refl
 below-next (suc n) = rw (add-one (suc n)) (ap {B = List ℕ} (λ l. 0 ∷ l) (rw (add-one n) at (upTo-next n)))

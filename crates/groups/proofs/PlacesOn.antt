@@ -1,0 +1,67 @@
+-- The places on a core, as a loop over the tasks meets them. Assumes nothing.
+use mathlib.Core.Path.{_≡_, refl, ap, _∙_}
+use mathlib.Core.Bool.{Bool, true, false, cond}
+use mathlib.Core.List.{List, [], _∷_, _++_, append-nil, append-assoc}
+use Prim.Native.Nat.{ℕ, zero, suc, _+_, _-_, _≤_, _<_}
+use native.Mathlib.Nat.{le-refl, add-zero}
+use native.Mathlib.Numerals.{add-one}
+use native.Mathlib.Decide.{ℕ-discrete}
+use native.Mathlib.Omega.{arith}
+use lib.Dec.{eqb}
+use lib.ListN.{length, length-append, length-set, take, getD, set}
+use lib.Seq.{take-suc-set, take-set-le, getD-set-same, getD-set-other}
+use Rattle.laws.specs.Idioms.{from, below}
+use Rattle.laws.proofs.Sums.{those-append}
+use Rattle.laws.proofs.Runs.{below-next}
+use Rattle.groups.specs.Grouped.{OneIf, placesOn, Low, Joined}
+
+one-more : (b : Bool) (x : ℕ) → length (cond b (x ∷ []) []) ≡ cond b 1 0
+one-more true x = refl
+one-more false x = refl
+
+low-set : {order : List ℕ} → Low order → (n : ℕ) {i : ℕ} → n < 33 → i < 32 → Low (set order n i)
+low-set {order} low n {i} fits small = record { each = λ k. go k (ℕ-discrete k n); long = rw length-set (low .long) }
+  where
+    go : (k : ℕ) → Dec (k ≡ n) → getD (set order n i) k 0 < 32
+    go k (yes same) = rw (same, getD-set-same order n i 0 (omega (arith, low .long))) small
+    go k (no other) = rw (getD-set-other order n k i 0 other) (low .each k)
+
+module _ (core : List ℕ) (q : ℕ) where
+  pub places-none : placesOn core q 0 ≡ []
+  unfolding placesOn from
+  places-none = refl
+
+  pub places-next : (n : ℕ) → placesOn core q (n + 1) ≡ placesOn core q n ++ cond (eqb (getD core n 0) q) (n ∷ []) []
+  unfolding placesOn
+  places-next n = rw (below-next n) (those-append (λ i. eqb (getD core i 0) q) (below n) (n ∷ []))
+
+  pub count-next : (n : ℕ) → length (placesOn core q (n + 1)) ≡ length (placesOn core q n) + cond (eqb (getD core n 0) q) 1 0
+  count-next n = rw (places-next n, length-append, one-more)
+
+  -- the first of the tasks have no more
+  few-more : (i d : ℕ) → length (placesOn core q i) ≤ length (placesOn core q (i + d))
+  few-more i zero = rw (add-zero i) (le-refl _)
+  few-more i (suc d) =
+      let e : i + suc d ≡ i + d + 1 = omega arith in
+      rw e (omega (arith, count-next (i + d), few-more i d))
+
+  pub places-few : (i n : ℕ) → i ≤ n → length (placesOn core q i) ≤ length (placesOn core q n)
+  places-few i n h = let e : i + (n - i) ≡ n = omega arith in rw e at (few-more i (n - i))
+
+  -- one task more: its place is written after the others, and counts where it is on the core
+  module _ {m : ℕ} {old : List ℕ} where
+    pub joined-none : Low old → Joined (placesOn core q 0) m m old old
+    joined-none low = record { count = rw places-none (omega arith); is = rw (places-none, append-nil); low = low }
+
+    pub joined-next : (i : ℕ) {n k : ℕ} {out : List ℕ} → i < 32 → n < 33 → Joined (placesOn core q i) m n old out → OneIf (eqb (getD core i 0) q) k
+        → Joined (placesOn core q (i + 1)) m (n + k) old (set out n i)
+    joined-next i {n} {k} {out} small fits so one =
+        record {
+          count = omega (arith, count-next i, so .count, one .is);
+          is = rw (places-next i, ← append-assoc (take m old) (placesOn core q i) _, ← so .is, one .is) (go (eqb (getD core i 0) q));
+          low = low-set (so .low) n fits small;
+        }
+      where
+        go : (b : Bool) → take (n + cond b 1 0) (set out n i) ≡ take n out ++ cond b (i ∷ []) []
+        go true = rw add-one (take-suc-set out n i (omega (arith, so .low .long)))
+        go false = rw (add-zero, append-nil) (take-set-le n out n i (le-refl n))
