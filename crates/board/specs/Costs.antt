@@ -19,6 +19,10 @@ costsOf t p = record { request = pricesOf t p .perRequest; weight = filled 8 0 (
 abbrev pub noCosts : CoreCosts
 noCosts = record { request = 0; weight = replicate 8 0 }
 
+-- what the cores cost each other
+unfoldable pub allCosts : Table → List CoreCosts
+allCosts t = filled 8 noCosts (map (costsOf t) (upTo (t .cores)))
+
 -- a table whose cores near p, whose cores far from each, and whose figures are these
 pub record Shows (p near : ℕ) (far : List ℕ) (f : Figures) (t : Table) : Type 0 where
   pub near-is : near ≡ mask (isNear t p) (t .cores)

@@ -1,19 +1,17 @@
 // Near and far from the sets of partitions, and what a request of each core costs: the rules of "Delay figures" by cores, as numbers.
 ghost use mathlib.Core.Path.{_≡_};
 ghost use Prim.Native.Nat.{_-_, _*_, _/_, _%_, _^_, _≤_};
-ghost use mathlib.Core.List.{map};
 ghost use lib.Count.{ones};
 ghost use Rattle.rules.specs.declared.Table.{Table};
-ghost use Rattle.laws.specs.Idioms.{sumOver, upTo, filled};
+ghost use Rattle.laws.specs.Idioms.{sumOver, upTo};
 ghost use Rattle.rules.specs.Cores.{share};
-ghost use Rattle.rules.specs.Sound.{Sound};
+ghost use Rattle.rules.specs.Sound.{SoundRow};
 ghost use Rattle.rules.specs.Dram.{RD};
 ghost use Rattle.rules.specs.Board.{weight};
 ghost use Rattle.delays.specs.Figures.{FiguresBounded};
 ghost use Rattle.board.specs.Masks.{asBit, mask, onSide, farMasks};
-ghost use Rattle.board.specs.Costs.{costsOf, noCosts, Shows};
+ghost use Rattle.board.specs.Costs.{costsOf, allCosts, Shows};
 use delays::Figures;
-use rules::Table;
 
 // For one core: RD, and what one request of each core costs one of its jobs.
 pub struct CoreCosts {
@@ -131,32 +129,13 @@ fn costs(cores: usize, near: u8, far: &[u8; 8], p: usize, f: Figures) -> CoreCos
     CoreCosts { request, weight }
 }
 
-// The costs of one core.
-pub fn core_costs(t: Table, p: u8) -> CoreCosts
-    requires { ⌜ Sound t ⌝ }
-    requires { ⌜ (1 ≤ p) × (p ≤ t .cores) ⌝ }
-    ensures { λ r. ⌜ r ≡ costsOf t p ⌝ }
-{
-    let cores = t.cores as usize;
-    let own = p as usize;
-    let sets = t.sets;
-    let row = t.timing;
-    let figures = delays::figures_of(row);
-    let far = far_sides(cores, &sets);
-    let near = side(cores, &sets, own, true);
-    costs(cores, near, &far, own, figures)
-}
-
 // The costs of every core.
-pub fn all_costs(t: Table) -> [CoreCosts; 8]
-    requires { ⌜ Sound t ⌝ }
-    ensures { λ r. ⌜ r ≡ filled 8 noCosts (map (costsOf t) (upTo (t .cores))) ⌝ }
+pub fn all_costs(cores: usize, sets: &[u16; 8], row: [u16; 15]) -> [CoreCosts; 8]
+    requires { ⌜ (cores ≤ 8) × SoundRow row ⌝ }
+    ensures { λ r. ⌜ ((t : Table) → t .cores ≡ cores → t .sets ≡ now (sets .entry) → t .timing ≡ row → r ≡ allCosts t) ⌝ }
 {
-    let cores = t.cores as usize;
-    let sets = t.sets;
-    let row = t.timing;
     let figures = delays::figures_of(row);
-    let far = far_sides(cores, &sets);
+    let far = far_sides(cores, sets);
     let none = CoreCosts {
         request: 0,
         weight: [0u64; 8],
@@ -164,7 +143,7 @@ pub fn all_costs(t: Table) -> [CoreCosts; 8]
     let mut all = [none; 8];
     let mut p: usize = 0;
     while p < cores {
-        let near = side(cores, &sets, p + 1, true);
+        let near = side(cores, sets, p + 1, true);
         all[p] = costs(cores, near, &far, p + 1, figures);
         p += 1;
     }

@@ -2,8 +2,6 @@
 --     PlacesOn  the places on a core, as a loop over the tasks meets them
 --     ByCore    those of all cores, core after core: no more than the tasks
 --     InTurn    as a loop over the cores writes them
---     Rows      a figure of the tasks in that order
 pub mod PlacesOn
 pub mod ByCore
 pub mod InTurn
-pub mod Rows

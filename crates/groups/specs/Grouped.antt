@@ -37,7 +37,3 @@ pub record Ordered (cores n : ℕ) (core starts order : List ℕ) : Type 0 where
   pub long : length starts ≡ 9
   pub low : Low order
   pub each : (q : ℕ) → q < cores → OrderedAt n core starts order q
-
--- a figure of the first n tasks, in that order
-pub record InOrder (n : ℕ) (order lane out : List ℕ) : Type 0 where
-  pub each : (k : ℕ) → k < n → getD out k 0 ≡ getD lane (getD order k 0) 0

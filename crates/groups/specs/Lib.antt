@@ -1,2 +1,5 @@
--- What the layout's contracts cite beside the rules.
+-- What the contracts about lent figures cite beside the rules.
+--     Grouped  the tasks by their cores
+--     Lanes    their figures in lent arrays
 pub mod Grouped
+pub mod Lanes

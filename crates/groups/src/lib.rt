@@ -1,9 +1,9 @@
-// The first tasks of a table laid out core after core: in which order they stand, and their figures in that order.
+// The tasks core after core: in which order they stand, and where each core's begin.
 ghost use mathlib.Core.Path.{_≡_};
 ghost use lib.Dec.{eqb};
 ghost use lib.ListN.{length, getD};
 ghost use Prim.Native.Nat.{_+_, _≤_, _<_};
-ghost use Rattle.groups.specs.Grouped.{OneIf, Low, Joined, Ordered, InOrder, placesOn};
+ghost use Rattle.groups.specs.Grouped.{OneIf, Low, Joined, Ordered, placesOn};
 
 fn same(a: u8, b: u8) -> usize
     ensures { λ r. ⌜ OneIf (eqb a b) r ⌝ }
@@ -42,20 +42,6 @@ pub fn grouped(n: usize, cores: usize, core: &[u8; 32], order: &mut [usize; 33])
         q += 1;
     }
     from
-}
-
-// A figure of the first n tasks, in that order.
-pub fn in_order(n: usize, order: &[usize; 33], lane: &[u64; 32]) -> [u64; 33]
-    requires { ⌜ (n ≤ 32) × Low (now order) ⌝ }
-    ensures { λ r. ⌜ InOrder n (now (order .entry)) (now (lane .entry)) r ⌝ }
-{
-    let mut out = [0u64; 33];
-    let mut k: usize = 0;
-    while k < n {
-        out[k] = lane[order[k]];
-        k += 1;
-    }
-    out
 }
 
 // Where the task in place k stands, when the first of its core stands at `first`: after its higher tasks.

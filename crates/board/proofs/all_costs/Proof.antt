@@ -1,12 +1,12 @@
 -- `all_costs` fills a place a core with its costs. Assumes nothing.
-use mathlib.Core.Path.{_≡_, refl}
+use mathlib.Core.Path.{_≡_, refl, sym, ap, _∙_}
 use mathlib.Core.List.{map}
 use Prim.Native.Nat.{_-_, _≤_}
 use borrow.Author.Needs.{needs}
 use native.Mathlib.Omega.{arith}
 use Rattle.rules.specs.declared.Table.{Table}
 use Rattle.delays.specs.Figures.{figuresOf}
-use Rattle.board.specs.Costs.{costsOf, noCosts}
+use Rattle.board.specs.Costs.{costsOf, noCosts, allCosts}
 use Rattle.laws.specs.Idioms.{from, upTo, filled}
 use Rattle.laws.proofs.Places.{place-next}
 use Rattle.board.proofs.Weighed.{small}
@@ -24,34 +24,30 @@ loop-holds : tie.Need-loop-holds Inv-loop μ-loop
 unfolding from
 loop-holds c = (search needs, λ t e s f. refl)
 
--- before the loop
-module _ (c : tie.After-far-sides Inv-loop μ-loop) where
-  abbrev start : tie.Start Inv-loop μ-loop
-  start = c .before .before .before .before .before .before
-
 costs-requires : tie.Need-costs-requires Inv-loop μ-loop
 costs-requires c κs =
-    let b = c .before .before .before .before .before in
-    (search needs, small (start b .pre .row) (b .before .before .figures-of .ensures))
+    let f = c .before .before .before .before .before in
+    (search needs, small (f .before .pre .1) (f .figures-of .ensures))
 
 loop-again : tie.Need-loop-again Inv-loop μ-loop
 loop-again c =
     let side = c .before .before in
-    let l = side .before .before .before in (
+    let l = side .before .before in (
       search needs,
       λ t e s f.
           rw (l .loop .inv .1 t e s f, c .costs .ensures t e (record { near-is = rw (e, s) (side .side .ensures); far-are = rw (e, s) (l .before .far-sides .ensures); figures-are = f }))
-          (place-next noCosts (costsOf t) 8 (l .loop .p) (omega (arith, start (l .before) .pre .cores-in .high))),
+          (place-next noCosts (costsOf t) 8 (l .loop .p) (omega (arith, l .before .before .before .pre .0))),
     )
 
 returns : tie.Need-returns Inv-loop μ-loop
-returns c =
-    let b = c .before .before in
-    let e : c .before .loop .p ≡ start b .args .t .cores = omega arith in
-    rw (c .before .loop .inv .1 (start b .args .t) refl refl (b .before .before .figures-of .ensures), e)
+unfolding allCosts
+returns c t e s row =
+    let f = c .before .before .before in
+    let all : c .before .loop .p ≡ t .cores = omega arith in
+    rw (c .before .loop .inv .1 t e s (f .figures-of .ensures ∙ ap figuresOf (sym row)), all)
 
 pub all-costs-spec : {M : Type 1} → statement M
 all-costs-spec =
     tie.close
-    (tie.spec Inv-loop μ-loop (λ c. search needs) (λ c κs. search needs) (λ c κs. search needs) loop-holds (λ c. search needs) (λ c κs. search needs)
+    (tie.spec Inv-loop μ-loop (λ c κs. search needs) (λ c κs. search needs) loop-holds (λ c. search needs) (λ c κs. search needs)
     (λ c. search needs) costs-requires (λ c. search needs) (λ c. search needs) (λ c. search needs) (λ c. search needs) loop-again returns)
