@@ -1,2 +1,2 @@
--- What the contracts of judgement cite beside the rules.
-pub mod Numbered
+-- What the contracts of judging lent columns cite beside the rules.
+pub mod Lent

@@ -1,79 +1,58 @@
-// Judgement of tasks of an accepted table: one task and all.
+// Judgement of every task of lent columns: the rounds, and the refusals that a judgement meets on the way.
 ghost use mathlib.Core.Path.{_≡_};
-ghost use mathlib.Core.Bool.{true};
 ghost use Prim.Native.Nat.{_≤_};
-ghost use Rattle.laws.specs.Idioms.{Within};
-ghost use Rattle.rules.specs.Sound.{Sound};
-ghost use Rattle.rules.specs.Tasks.{latest, taskOf};
+ghost use lib.ListN.{getD};
 ghost use Rattle.rules.specs.Judgement.{misses};
-ghost use Rattle.rules.specs.Chain.{isAccepted};
-ghost use Rattle.groups.specs.Grouped.{Grouped};
-ghost use Rattle.rounds.specs.Numbered.{climbedFor, firstLate, noneJudged, judgedTasks, allCosts, ownOf};
+ghost use Rattle.rounds.specs.Lent.{Lent, ownWith, lentOf, OnTime, Judgeable, firstAfter, judgedEach, judgedLent, noneJudged};
 use board::CoreCosts;
-use climb::Climbed;
 use climb::Own;
 use rules::AllJudged;
 use rules::Answer;
 use rules::Refusal;
-use rules::Table;
-use rules::Task;
 use rules::Verdict;
 use rules::refused;
 
-// A task's own figures, with its core's costs, the place of its core's first task and its own.
-fn own_of(task: Task, cost: CoreCosts, cores: u8, first: usize, place: usize) -> Own
-    ensures { λ r. ⌜ r ≡ ownOf task cost cores first place ⌝ }
+// How many tasks and cores there are, and what the cores cost each other.
+pub struct Priced {
+    pub tasks: usize,
+    pub cores: usize,
+    pub costs: [CoreCosts; 8],
+}
+
+// The judged task's own figures: C and H from its place, its core's costs, the place of its core's first task and its own.
+pub fn own_at(
+    cost: CoreCosts,
+    cores: usize,
+    first: usize,
+    place: usize,
+    latest: u64,
+    costs: &[u64; 33],
+    asks: &[u64; 33],
+) -> Own
+    requires { ⌜ place ≤ 32 ⌝ }
+    ensures { λ r. ⌜ r ≡ ownWith (getD (now (costs .entry)) place 0) (getD (now (asks .entry)) place 0) latest cost cores first place ⌝ }
 {
     let weight = cost.weight;
     Own {
-        exec: task.exec.0,
-        requests: task.requests as u64,
-        latest: climb::latest(task),
+        exec: costs[place],
+        requests: asks[place],
+        latest,
         delay: cost.request,
         weight,
-        cores: cores as usize,
+        cores,
         first,
         place,
     }
 }
 
-// Task number k of an accepted table, from a start that is not late.
-pub fn judge_task(table: Table, k: u8, start: u64) -> Climbed
-    requires { ⌜ Sound table ⌝ }
-    requires { ⌜ Within 1 (table .tasks) k × (start ≤ latest (taskOf table k)) ⌝ }
-    ensures { λ r. ⌜ r ≡ climbedFor table k start ⌝ }
+// 13 for the first start that is after the latest allowed response.
+fn late(n: usize, latest: &[u64; 32], starts: &[u64; 32]) -> Refusal
+    requires { ⌜ n ≤ 32 ⌝ }
+    ensures { λ r. ⌜ r ≡ firstAfter n (now (latest .entry)) (now (starts .entry)) ⌝ }
 {
-    let i = (k as usize) - 1;
-    let task = table.task[i];
-    let core = task.core;
-    let cost = board::core_costs(table, core);
-    let mut from = [0usize; 9];
-    let mut spans = [0u64; 33];
-    let mut costs = [0u64; 33];
-    let mut asks = [0u64; 33];
-    groups::grouped(table, &mut from, &mut spans, &mut costs, &mut asks);
-    let first = from[(core as usize) - 1];
-    let own = own_of(
-        task,
-        cost,
-        table.cores,
-        first,
-        groups::place(table, i, first),
-    );
-    let invs = climb::inverses(table.tasks as usize, &spans);
-    climb::settle(own, &from, &spans, &invs, &costs, &asks, start)
-}
-
-// 13 for the first start that is late.
-pub fn late(table: Table, starts: [u64; 32]) -> Refusal
-    requires { ⌜ Sound table ⌝ }
-    ensures { λ r. ⌜ r ≡ firstLate table starts ⌝ }
-{
-    let n = table.tasks as usize;
     let mut i: usize = 0;
     while i < n {
-        let task = table.task[i];
-        if climb::latest(task) < starts[i] {
+        if latest[i] < starts[i] {
             return refused(13, (i as u8) + 1);
         }
         i += 1;
@@ -99,35 +78,34 @@ pub fn none_judged(refusal: Refusal) -> AllJudged
     AllJudged { refusal, answers }
 }
 
-// Every task, with what is known of the cores and their tasks.
+// Every task, from starts none of which is late: 14 with the first whose start F lowers, or the answers.
 fn judge_each(
-    table: Table,
-    starts: [u64; 32],
-    all: [CoreCosts; 8],
+    board: Priced,
+    core: &[u8; 32],
+    latest: &[u64; 32],
+    starts: &[u64; 32],
     from: &[usize; 9],
     spans: &[u64; 33],
     costs: &[u64; 33],
     asks: &[u64; 33],
 ) -> AllJudged
-    requires { ⌜ Sound table ⌝ }
-    requires { ⌜ isAccepted (firstLate table starts) ≡ true ⌝ }
-    requires { ⌜ all ≡ allCosts table ⌝ }
-    requires { ⌜ Grouped table (now from) (now spans) (now costs) (now asks) ⌝ }
-    ensures { λ r. ⌜ r ≡ judgedTasks table starts ⌝ }
+    ghost { Lent }
+    requires { λ l. ⌜ lentOf board (now core) (now latest) (now from) (now spans) (now costs) (now asks) ≡ l ⌝ }
+    requires { λ l. ⌜ Judgeable l ⌝ }
+    requires { λ l. ⌜ OnTime (board .tasks) (now latest) (now starts) ⌝ }
+    ensures { λ l r. ⌜ r ≡ judgedEach l (now (starts .entry)) ⌝ }
 {
-    let tasks = table.tasks as usize;
     let miss = missed();
     let mut answers = [miss; 32];
-    let invs = climb::inverses(tasks, spans);
+    let invs = climb::inverses(board.tasks, spans);
     let mut next = *from;
     let mut i: usize = 0;
-    while i < tasks {
-        let task = table.task[i];
-        let p = (task.core as usize) - 1;
+    while i < board.tasks {
+        let p = (core[i] as usize) - 1;
         let place = next[p];
         next[p] = place + 1;
-        let cost = all[p];
-        let own = own_of(task, cost, table.cores, from[p], place);
+        let cost = board.costs[p];
+        let own = own_at(cost, board.cores, from[p], place, latest[i], costs, asks);
         let climbed = climb::settle(own, from, spans, &invs, costs, asks, starts[i]);
         if climbed.high {
             return none_judged(refused(14, (i as u8) + 1));
@@ -140,17 +118,25 @@ fn judge_each(
     AllJudged { refusal, answers }
 }
 
-// Every task of an accepted table, from starts none of which is late: 14 with the first whose start F lowers, or the answers.
-pub fn judge_tasks(table: Table, starts: [u64; 32]) -> AllJudged
-    requires { ⌜ Sound table ⌝ }
-    requires { ⌜ isAccepted (firstLate table starts) ≡ true ⌝ }
-    ensures { λ r. ⌜ r ≡ judgedTasks table starts ⌝ }
+// 13 with the first start that is late; else 14 with the first that F lowers; else every task's answer.
+pub fn judge_lent(
+    board: Priced,
+    core: &[u8; 32],
+    latest: &[u64; 32],
+    starts: &[u64; 32],
+    from: &[usize; 9],
+    spans: &[u64; 33],
+    costs: &[u64; 33],
+    asks: &[u64; 33],
+) -> AllJudged
+    ghost { Lent }
+    requires { λ l. ⌜ lentOf board (now core) (now latest) (now from) (now spans) (now costs) (now asks) ≡ l ⌝ }
+    requires { λ l. ⌜ Judgeable l ⌝ }
+    ensures { λ l r. ⌜ r ≡ judgedLent l (now (starts .entry)) ⌝ }
 {
-    let all = board::all_costs(table);
-    let mut from = [0usize; 9];
-    let mut spans = [0u64; 33];
-    let mut costs = [0u64; 33];
-    let mut asks = [0u64; 33];
-    groups::grouped(table, &mut from, &mut spans, &mut costs, &mut asks);
-    judge_each(table, starts, all, &from, &spans, &costs, &asks)
+    let tardy = late(board.tasks, latest, starts);
+    if tardy.number != 0 {
+        return none_judged(tardy);
+    }
+    judge_each(board, core, latest, starts, from, spans, costs, asks)
 }

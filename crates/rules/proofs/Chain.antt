@@ -7,6 +7,13 @@ use borrow.Author.Tests.{eqb-true, eq-eqb, ne-eqb}
 use Rattle.rules.specs.declared.Refusal.{Refusal}
 use Rattle.rules.specs.Chain.{isAccepted, _orElse_, given}
 
+-- a refusal that a call gave: its number is 0, or is not
+pub passes : {r s : Refusal} → r ≡ s → r .number ≡ 0 → isAccepted s ≡ true
+passes {r} e h = rw e at (eq-eqb (r .number) 0 h)
+
+pub refuses : {r s : Refusal} → r ≡ s → (r .number ≡ 0 → ⊥) → isAccepted s ≡ false
+refuses {r} e h = rw e at (ne-eqb (r .number) 0 h)
+
 pub both-accepted : (a b : Refusal) → isAccepted (a orElse b) ≡ true → (isAccepted a ≡ true) × (isAccepted b ≡ true)
 both-accepted a b e = go (isAccepted a) refl e
   where

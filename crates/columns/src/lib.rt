@@ -1,0 +1,104 @@
+// ---- the tasks of a table
+
+// Of each task its core and its latest allowed response.
+fn lanes(table: Table, core: &mut [u8; 32], latest: &mut [u64; 32])
+    requires { ⌜ Sound table ⌝ }
+    ensures { λ _. ⌜ Lane coreNumber (table .task) (table .tasks) (now (core .exit)) × Lane Tasks.latest (table .task) (table .tasks) (now (latest .exit)) ⌝ }
+{
+    let n = table.tasks as usize;
+    let mut i: usize = 0;
+    while i < n {
+        let task = table.task[i];
+        core[i] = task.core;
+        latest[i] = climb::latest(task);
+        i += 1;
+    }
+}
+
+// T, C and H of the tasks, in an order of their places.
+fn columns(
+    table: Table,
+    order: &[usize; 33],
+    spans: &mut [u64; 33],
+    costs: &mut [u64; 33],
+    asks: &mut [u64; 33],
+)
+    requires { ⌜ Sound table × Low (now order) ⌝ }
+    ensures { λ _. ⌜ InOrder periodOf (table .task) (table .tasks) (now (order .entry)) (now (spans .exit)) ⌝ }
+    ensures { λ _. ⌜ InOrder execOf (table .task) (table .tasks) (now (order .entry)) (now (costs .exit)) ⌝ }
+    ensures { λ _. ⌜ InOrder requestsOf (table .task) (table .tasks) (now (order .entry)) (now (asks .exit)) ⌝ }
+{
+    let n = table.tasks as usize;
+    let mut k: usize = 0;
+    while k < n {
+        let at = order[k];
+        let task = table.task[at];
+        spans[k] = task.period.0;
+        costs[k] = task.exec.0;
+        asks[k] = task.requests as u64;
+        k += 1;
+    }
+}
+
+// What an accepted table's cores cost each other.
+fn priced(table: Table) -> Priced
+    requires { ⌜ Sound table ⌝ }
+    ensures { λ r. ⌜ r ≡ pricedOf table ⌝ }
+{
+    let cores = table.cores as usize;
+    let sets = table.sets;
+    let row = table.timing;
+    let costs = board::all_costs(cores, &sets, row);
+    Priced {
+        tasks: table.tasks as usize,
+        cores,
+        costs,
+    }
+}
+
+// Task number k of an accepted table, from a start that is not late.
+pub fn judge_task(table: Table, k: u8, start: u64) -> Climbed
+    requires { ⌜ Sound table ⌝ }
+    requires { ⌜ Within 1 (table .tasks) k × (start ≤ Tasks.latest (taskOf table k)) ⌝ }
+    ensures { λ r. ⌜ r ≡ climbedFor table k start ⌝ }
+{
+    let mut core = [0u8; 32];
+    let mut latest = [0u64; 32];
+    lanes(table, &mut core, &mut latest);
+    let board = priced(table);
+    let mut order = [0usize; 33];
+    let from = groups::grouped(board.tasks, board.cores, &core, &mut order);
+    let mut spans = [0u64; 33];
+    let mut costs = [0u64; 33];
+    let mut asks = [0u64; 33];
+    columns(table, &order, &mut spans, &mut costs, &mut asks);
+    let invs = climb::inverses(board.tasks, &spans);
+    let i = (k as usize) - 1;
+    let p = (core[i] as usize) - 1;
+    let place = groups::place(i, from[p], &core);
+    let cost = board.costs[p];
+    let own = own_with(costs[place], asks[place], latest[i], cost, board.cores, from[p], place);
+    climb::settle(own, &from, &spans, &invs, &costs, &asks, start)
+}
+
+// Every task of an accepted table: 13 with the first late start, 14 with the first whose start F lowers, or the answers.
+pub fn judge_tasks(table: Table, starts: [u64; 32]) -> AllJudged
+    requires { ⌜ isAccepted (checkTable table) ≡ true ⌝ }
+    ensures { λ r. ⌜ r ≡ judgeAll table starts ⌝ }
+{
+    let mut core = [0u8; 32];
+    let mut latest = [0u64; 32];
+    lanes(table, &mut core, &mut latest);
+    let board = priced(table);
+    let tardy = late(board.tasks, &latest, &starts);
+    if tardy.number != 0 {
+        return none_judged(tardy);
+    }
+    let mut order = [0usize; 33];
+    let from = groups::grouped(board.tasks, board.cores, &core, &mut order);
+    let mut spans = [0u64; 33];
+    let mut costs = [0u64; 33];
+    let mut asks = [0u64; 33];
+    columns(table, &order, &mut spans, &mut costs, &mut asks);
+    judge_each(board, &core, &latest, &starts, &from, &spans, &costs, &asks)
+}

@@ -1,7 +1,0 @@
--- A task's own figures. Assumes nothing.
-use borrow.Author.Needs.{needs}
-use Rattle.rounds.proofs.own_of.Statement.{statement}
-use Rattle.rounds.proofs.own_of.Tie as tie
-
-pub own-of-spec : {M : Type 1} → statement M
-own-of-spec = tie.close (tie.spec (λ c. search needs) (λ c κs. search needs) (λ c. rw (c .latest .ensures)))

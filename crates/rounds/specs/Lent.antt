@@ -1,0 +1,100 @@
+-- The tasks of lent columns, and what judging them gives. Places are counted from 0, numbers from 1. Assumes nothing.
+use Prim.Native.Nat.{ℕ, _+_, _-_, _≤_, _<_}
+use mathlib.Core.Path.{_≡_}
+use mathlib.Core.Bool.{Bool, cond}
+use mathlib.Core.List.{List, map}
+use lib.Dec.{ltb}
+use lib.ListN.{length, getD}
+use Rattle.laws.specs.Idioms.{Within, entry, upTo, filled}
+use Rattle.rules.specs.declared.Refusal.{Refusal}
+use Rattle.rules.specs.declared.AllJudged.{AllJudged}
+use Rattle.rules.specs.Judgement.{misses}
+use Rattle.rules.specs.Chain.{isAccepted, first, _orElse_}
+use Rattle.rules.specs.Operations.{noAnswers}
+use Rattle.board.specs.declared.CoreCosts.{CoreCosts}
+use Rattle.board.specs.Costs.{noCosts}
+use Rattle.groups.specs.Grouped.{placesOn}
+use Rattle.climb.specs.declared.Own.{Own}
+use Rattle.climb.specs.declared.Climbed.{Climbed}
+use Rattle.climb.specs.Terms.{Terms, termsOf}
+use Rattle.climb.specs.Run.{Ready, climbed}
+use Rattle.rounds.specs.declared.Priced.{Priced}
+
+-- by the tasks' numbers: the core and the latest allowed response; core after core: T, C and H, and where each core's tasks begin
+pub record Lent : Type 0 where
+  pub board : Priced
+  pub core : List ℕ
+  pub latest : List ℕ
+  pub begins : List ℕ
+  pub periods : List ℕ
+  pub execs : List ℕ
+  pub asks : List ℕ
+
+abbrev pub lentOf : Priced → List ℕ → List ℕ → List ℕ → List ℕ → List ℕ → List ℕ → Lent
+lentOf board core latest begins periods execs asks =
+    record { board = board; core = core; latest = latest; begins = begins; periods = periods; execs = execs; asks = asks }
+
+abbrev pub ownWith : ℕ → ℕ → ℕ → CoreCosts → ℕ → ℕ → ℕ → Own
+ownWith exec requests latest cost cores first place =
+    record {
+      exec = exec;
+      requests = requests;
+      latest = latest;
+      delay = cost .request;
+      weight = cost .weight;
+      cores = cores;
+      first = first;
+      place = place;
+    }
+
+-- where the task in place i stands: after those before it on its core
+unfoldable pub placeAt : Lent → ℕ → ℕ
+placeAt l i = getD (l .begins) (getD (l .core) i 0 - 1) 0 + length (placesOn (l .core) (getD (l .core) i 0) i)
+
+-- its own figures, and the terms of its equation
+abbrev pub ownAt : Lent → ℕ → Own
+ownAt l i =
+    ownWith (getD (l .execs) (placeAt l i) 0) (getD (l .asks) (placeAt l i) 0) (getD (l .latest) i 0) (entry noCosts (l .board .costs) (getD (l .core) i 0)) (l .board .cores)
+    (getD (l .begins) (getD (l .core) i 0 - 1) 0) (placeAt l i)
+
+abbrev pub termsAt : Lent → ℕ → Terms
+termsAt l i = termsOf (ownAt l i) (l .begins) (l .periods) (l .execs) (l .asks)
+
+-- what judging task number k gives, from its start
+unfoldable pub climbedAt : Lent → List ℕ → ℕ → Climbed
+climbedAt l starts k = climbed (termsAt l (k - 1)) (entry 0 starts k)
+
+-- what the code may rely on
+pub record Judgeable (l : Lent) : Type 0 where
+  pub few : l .board .tasks ≤ 32
+  pub long : length (l .begins) ≡ 9
+  pub costs-long : length (l .board .costs) ≡ 8
+  pub core-in : (i : ℕ) → i < l .board .tasks → Within 1 8 (getD (l .core) i 0)
+  pub place-low : (i : ℕ) → i < l .board .tasks → placeAt l i ≤ 32
+  pub ready : (i start : ℕ) → i < l .board .tasks → start ≤ getD (l .latest) i 0 → Ready (termsAt l i) start
+
+pub record OnTime (n : ℕ) (latest starts : List ℕ) : Type 0 where
+  pub each : (i : ℕ) → i < n → getD starts i 0 ≤ getD latest i 0
+
+-- 13 with the first start that is after the latest allowed response; 14 with the first that F lowers
+unfoldable pub firstAfter : ℕ → List ℕ → List ℕ → Refusal
+firstAfter n latest starts = first 13 (λ k. ltb (entry 0 latest k) (entry 0 starts k)) n
+
+unfoldable pub firstLowered : Lent → List ℕ → Refusal
+firstLowered l starts = first 14 (λ k. climbedAt l starts k .high) (l .board .tasks)
+
+-- refused: no answer
+unfoldable pub noneJudged : Refusal → AllJudged
+noneJudged r = record { refusal = r; answers = noAnswers }
+
+-- refused, or an answer a task
+unfoldable pub answeredOr : Lent → List ℕ → Refusal → AllJudged
+answeredOr l starts r =
+    let answers = filled 32 (misses 0) (map (λ k. climbedAt l starts k .answer) (upTo (l .board .tasks))) in
+    record { refusal = r; answers = cond (isAccepted r) answers noAnswers }
+
+abbrev pub judgedEach : Lent → List ℕ → AllJudged
+judgedEach l starts = answeredOr l starts (firstLowered l starts)
+
+abbrev pub judgedLent : Lent → List ℕ → AllJudged
+judgedLent l starts = answeredOr l starts (firstAfter (l .board .tasks) (l .latest) starts orElse firstLowered l starts)
