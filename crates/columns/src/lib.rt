@@ -1,9 +1,27 @@
-// ---- the tasks of a table
+// The figures of an accepted table's tasks in lent columns, and the judgement of one task and of all.
+ghost use mathlib.Core.Path.{_≡_};
+ghost use mathlib.Core.Bool.{true};
+ghost use Prim.Native.Nat.{_≤_};
+ghost use lib.ListN.{length};
+ghost use Rattle.laws.specs.Idioms.{Within};
+ghost use Rattle.rules.specs.Sound.{Sound};
+ghost use Rattle.rules.specs.Tasks as Tasks;
+ghost use Rattle.rules.specs.Tasks.{taskOf};
+ghost use Rattle.rules.specs.Chain.{isAccepted};
+ghost use Rattle.rules.specs.Refusals.{checkTable};
+ghost use Rattle.rules.specs.Operations.{judgeAll};
+ghost use Rattle.groups.specs.Grouped.{Low};
+ghost use Rattle.groups.specs.Lanes.{Lanes, Columns};
+ghost use Rattle.columns.specs.Numbered.{climbedFor, pricedOf};
+use climb::Climbed;
+use rounds::Priced;
+use rules::AllJudged;
+use rules::Table;
 
 // Of each task its core and its latest allowed response.
 fn lanes(table: Table, core: &mut [u8; 32], latest: &mut [u64; 32])
-    requires { ⌜ Sound table ⌝ }
-    ensures { λ _. ⌜ Lane coreNumber (table .task) (table .tasks) (now (core .exit)) × Lane Tasks.latest (table .task) (table .tasks) (now (latest .exit)) ⌝ }
+    requires { ⌜ Sound table × (length (now core) ≡ 32) × (length (now latest) ≡ 32) ⌝ }
+    ensures { λ _. ⌜ Lanes (table .task) (table .tasks) (now (core .exit)) (now (latest .exit)) ⌝ }
 {
     let n = table.tasks as usize;
     let mut i: usize = 0;
@@ -24,9 +42,8 @@ fn columns(
     asks: &mut [u64; 33],
 )
     requires { ⌜ Sound table × Low (now order) ⌝ }
-    ensures { λ _. ⌜ InOrder periodOf (table .task) (table .tasks) (now (order .entry)) (now (spans .exit)) ⌝ }
-    ensures { λ _. ⌜ InOrder execOf (table .task) (table .tasks) (now (order .entry)) (now (costs .exit)) ⌝ }
-    ensures { λ _. ⌜ InOrder requestsOf (table .task) (table .tasks) (now (order .entry)) (now (asks .exit)) ⌝ }
+    requires { ⌜ (length (now spans) ≡ 33) × (length (now costs) ≡ 33) × (length (now asks) ≡ 33) ⌝ }
+    ensures { λ _. ⌜ Columns (table .task) (table .tasks) (now (order .entry)) (now (spans .exit)) (now (costs .exit)) (now (asks .exit)) ⌝ }
 {
     let n = table.tasks as usize;
     let mut k: usize = 0;
@@ -75,9 +92,10 @@ pub fn judge_task(table: Table, k: u8, start: u64) -> Climbed
     let invs = climb::inverses(board.tasks, &spans);
     let i = (k as usize) - 1;
     let p = (core[i] as usize) - 1;
-    let place = groups::place(i, from[p], &core);
+    let first = from[p];
+    let place = groups::place(i, first, &core);
     let cost = board.costs[p];
-    let own = own_with(costs[place], asks[place], latest[i], cost, board.cores, from[p], place);
+    let own = rounds::own_at(cost, board.cores, first, place, latest[i], &costs, &asks);
     climb::settle(own, &from, &spans, &invs, &costs, &asks, start)
 }
 
@@ -90,15 +108,11 @@ pub fn judge_tasks(table: Table, starts: [u64; 32]) -> AllJudged
     let mut latest = [0u64; 32];
     lanes(table, &mut core, &mut latest);
     let board = priced(table);
-    let tardy = late(board.tasks, &latest, &starts);
-    if tardy.number != 0 {
-        return none_judged(tardy);
-    }
     let mut order = [0usize; 33];
     let from = groups::grouped(board.tasks, board.cores, &core, &mut order);
     let mut spans = [0u64; 33];
     let mut costs = [0u64; 33];
     let mut asks = [0u64; 33];
     columns(table, &order, &mut spans, &mut costs, &mut asks);
-    judge_each(board, &core, &latest, &starts, &from, &spans, &costs, &asks)
+    rounds::judge_lent(board, &core, &latest, &starts, &from, &spans, &costs, &asks)
 }

@@ -2,6 +2,8 @@
 --     PlacesOn  the places on a core, as a loop over the tasks meets them
 --     ByCore    those of all cores, core after core: no more than the tasks
 --     InTurn    as a loop over the cores writes them
+--     Filling   arrays filled with the figures of tasks
 pub mod PlacesOn
 pub mod ByCore
 pub mod InTurn
+pub mod Filling

@@ -1,11 +1,12 @@
 -- An array that is filled from its first place on. Assumes nothing.
 use mathlib.Core.Path.{_≡_, sym}
 use mathlib.Core.List.{List, [], _∷_, _++_, append-assoc}
-use Prim.Native.Nat.{ℕ, suc, _-_, _<_}
+use Prim.Native.Nat.{ℕ, suc, _+_, _-_, _<_}
+use native.Mathlib.Decide.{ℕ-discrete}
 use native.Mathlib.Omega.{arith}
 use native.Mathlib.Numerals.{add-one}
-use lib.ListN.{length, length-append, replicate, set}
-use lib.Seq.{set-at}
+use lib.ListN.{length, length-append, replicate, getD, set}
+use lib.Seq.{set-at, getD-set-same, getD-set-other}
 use Rattle.laws.specs.Idioms.{filled}
 
 module _ {A : Type 0} (n : ℕ) (d : A) where
@@ -17,3 +18,11 @@ module _ {A : Type 0} (n : ℕ) (d : A) where
     where
       length-snoc : length (l ++ (x ∷ [])) ≡ suc i
       length-snoc = rw (length-append, e) (add-one i)
+
+-- what each place has, and one place more
+pub each-next : (xs : List ℕ) (g : ℕ → ℕ) {i y : ℕ} → i < length xs → ((j : ℕ) → j < i → getD xs j 0 ≡ g j) → y ≡ g i → (j : ℕ) → j < i + 1 → getD (set xs i y) j 0 ≡ g j
+each-next xs g {i} {y} fits so e j h = go (ℕ-discrete j i)
+  where
+    go : Dec (j ≡ i) → getD (set xs i y) j 0 ≡ g j
+    go (yes same) = rw (same, getD-set-same xs i y 0 fits) e
+    go (no other) = rw (getD-set-other xs i j y 0 other) (so j (omega (arith, other)))

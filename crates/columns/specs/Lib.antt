@@ -1,0 +1,2 @@
+-- What the contracts of judging a table cite beside the rules.
+pub mod Numbered
