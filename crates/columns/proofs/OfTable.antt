@@ -173,7 +173,7 @@ module _ (t : Table) (s : Sound t) {l : Lent} (o : OfTable t l) where
     pub of-climbed : (start : ℕ) → climbed (termsAt l i) start ≡ climbedFor t (i + 1) start
     of-climbed start = rw terms-are (climbed-same t (i + 1) grouped above start)
 
-  tasks-are : l .board .tasks ≡ t .tasks
+  pub tasks-are : l .board .tasks ≡ t .tasks
   tasks-are = ap (λ (b : Priced). b .tasks) (o .board-is)
 
   costs-long : length (l .board .costs) ≡ 8

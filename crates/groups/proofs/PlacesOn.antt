@@ -8,7 +8,7 @@ use native.Mathlib.Numerals.{add-one}
 use native.Mathlib.Decide.{ℕ-discrete, decLe}
 use native.Mathlib.Omega.{arith}
 use lib.Dec.{eqb}
-use lib.ListN.{length, length-append, length-set, take, getD, set, List·getD-append}
+use lib.ListN.{length, length-append, length-set, take, getD, set, replicate, List·getD-append}
 use lib.Seq.{take-suc-set, take-set-le, getD-set-same, getD-set-other, getD-append-add}
 use borrow.Author.Tests.{eq-eqb}
 use Rattle.laws.specs.Idioms.{from, below}
@@ -19,6 +19,15 @@ use Rattle.groups.specs.Grouped.{OneIf, placesOn, Low, Joined}
 one-more : (b : Bool) (x : ℕ) → length (cond b (x ∷ []) []) ≡ cond b 1 0
 one-more true x = refl
 one-more false x = refl
+
+-- no place written yet
+pub low-zeros : Low (replicate 33 0)
+low-zeros = record { each = λ k. zeros 33 k; long = refl }
+  where
+    zeros : (n k : ℕ) → getD (replicate n 0) k 0 < 32
+    zeros zero k = omega arith
+    zeros (suc n) zero = omega arith
+    zeros (suc n) (suc k) = zeros n k
 
 low-set : {order : List ℕ} → Low order → (n : ℕ) {i : ℕ} → n < 33 → i < 32 → Low (set order n i)
 low-set {order} low n {i} fits small = record { each = λ k. go k (ℕ-discrete k n); long = rw length-set (low .long) }

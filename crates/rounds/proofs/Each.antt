@@ -58,12 +58,15 @@ module _ (l : Lent) (i : ℕ) {place : ℕ} (at : place ≡ placeAt l i) {cost :
       termsOf (ownWith (getD (l .execs) place 0) (getD (l .asks) place 0) (getD (l .latest) i 0) cost (l .board .cores) (getD (l .begins) (getD (l .core) i 0 - 1) 0) place)
       (l .begins) (l .periods) (l .execs) (l .asks)
 
+  pub here-terms : terms ≡ termsAt l i
+  here-terms = rw (at, is)
+
   pub here-ready : Judgeable l → (start : ℕ) → i < l .board .tasks → start ≤ getD (l .latest) i 0 → Ready terms start
-  here-ready j start here fits = rw (at, is) (j .ready i start here fits)
+  here-ready j start here fits = rw here-terms (j .ready i start here fits)
 
   pub here-gives : (starts : List ℕ) → climbed terms (getD starts i 0) ≡ climbedAt l starts (i + 1)
   unfolding climbedAt
-  here-gives starts = let less : i + 1 - 1 ≡ i = omega arith in rw (less, at, is)
+  here-gives starts = let less : i + 1 - 1 ≡ i = omega arith in rw (less, here-terms)
 
 pub cost-at : (l : Lent) → Judgeable l → (i : ℕ) → i < l .board .tasks → (d : CoreCosts) → getD (l .board .costs) (getD (l .core) i 0 - 1) d ≡ entry noCosts (l .board .costs) (getD (l .core) i 0)
 cost-at l j i here d = let core = j .core-in i here in getD-within (l .board .costs) (getD (l .core) i 0 - 1) d noCosts (omega (arith, core .low, core .high, j .costs-long))

@@ -1,113 +1,106 @@
+-- One task. Assumes nothing.
 use borrow.Author.Needs.{needs}
+use mathlib.Core.Path.{_≡_, refl, ap, _∙_}
+use Prim.Native.Nat.{ℕ, _+_, _-_, _≤_, _<_}
+use native.Mathlib.Omega.{arith}
+use lib.ListN.{getD}
+use Rattle.laws.specs.Idioms.{Within}
+use Rattle.groups.proofs.PlacesOn.{low-zeros}
+use Rattle.climb.specs.Terms.{Terms}
+use Rattle.climb.specs.Run.{climbed}
+use Rattle.rounds.specs.Lent.{Lent, lentOf, placeAt, Judgeable}
+use Rattle.rounds.proofs.Each.{here-terms, here-ready, cost-at}
+use Rattle.columns.specs.Numbered.{climbedFor}
+use Rattle.columns.proofs.OfTable.{OfTable, of-judgeable, of-climbed, tasks-are}
 use Rattle.columns.proofs.judge_task.Statement.{statement}
 use Rattle.columns.proofs.judge_task.Tie as tie
-use Rattle.columns.proofs.judge_task.Reads as reads
-use Rattle.columns.proofs.judge_task.Lts as lts
-use Rattle.climb.proofs.inverses.Reads as inverses-reads
-use Rattle.climb.proofs.settle.Reads as settle-reads
-use Rattle.columns.proofs.columns.Reads as columns-reads
-use Rattle.columns.proofs.lanes.Reads as lanes-reads
-use Rattle.columns.proofs.priced.Reads as priced-reads
-use Rattle.groups.proofs.grouped.Reads as grouped-reads
-use Rattle.groups.proofs.place.Reads as place-reads
-use Rattle.rounds.proofs.own_at.Reads as own-at-reads
 
--- src/lib.rt:84:5
-lanes-requires : tie.Need-lanes-requires
-lanes-requires c κs = search needs
-
--- src/lib.rt:85:17
-priced-requires : tie.Need-priced-requires
-priced-requires c κs = search needs
-
--- src/lib.rt:87:16
 grouped-requires : tie.Need-grouped-requires
-grouped-requires c κs = ?
+grouped-requires c κs =
+    let board = c .before .before .priced .ensures in
+    let s = c .before .before .before .before .before .before .pre .0 in
+    ((rw board (s .tasks-in .high), rw board (s .cores-in .high)), low-zeros)
 
--- src/lib.rt:91:5
-columns-requires : tie.Need-columns-requires
-columns-requires c κs = search needs
+-- what is lent, once it is filled
+module _ (c : tie.After-columns) where
+  abbrev start : tie.Start
+  start = c .before .before .before .before .before .before .before .before .before .before .before .before
 
--- src/lib.rt:92:16
-inverses-requires : tie.Need-inverses-requires
-inverses-requires c κs = ?
+  abbrev lent : Lent
+  lent =
+      lentOf (c .before .before .before .before .before .before .before .before .priced .result) (c .before .before .before .before .before .before .before .before .before .lanes .last .1 .0) (c .before .before .before .before .before .before .before .before .before .lanes .last .1 .1 .0)
+      (c .before .before .before .before .before .grouped .result) (c .columns .last .1 .1 .0) (c .columns .last .1 .1 .1 .0) (c .columns .last .1 .1 .1 .1 .0)
 
--- src/lib.rt:93:13
-sub-i : tie.Need-sub-i
-sub-i c = search needs
+  of-table : OfTable (start .args .table) lent
+  of-table =
+      record {
+        board-is = c .before .before .before .before .before .before .before .before .priced .ensures;
+        lanes = c .before .before .before .before .before .before .before .before .before .lanes .ensures;
+        order = c .before .before .before .before .before .grouped .last .1 .1 .1 .0;
+        ordered = rw (c .before .before .before .before .before .before .before .before .priced .ensures) at (c .before .before .before .before .before .grouped .ensures);
+        columns = c .columns .ensures;
+      }
 
--- src/lib.rt:94:14
-array-read-p : tie.Need-array-read-p
-array-read-p c = search needs
 
--- src/lib.rt:94:14
-cast-p : tie.Need-cast-p
-cast-p c = ?
+  -- the task's place
+  abbrev i : ℕ
+  i = start .args .k - 1
 
--- src/lib.rt:94:13
-sub-p : tie.Need-sub-p
-sub-p c = ?
+  here : i < start .args .table .tasks
+  here = omega (arith, start .pre .1 .0 .low, start .pre .1 .0 .high)
 
--- src/lib.rt:95:17
-mul-first : tie.Need-mul-first
-mul-first c = ?
+  judgeable : Judgeable lent
+  judgeable = of-judgeable (start .args .table) (start .pre .0) of-table
 
--- src/lib.rt:95:17
-array-read-first : tie.Need-array-read-first
-array-read-first c = ?
+  counted : i < lent .board .tasks
+  counted = omega (arith, here, tasks-are (start .args .table) (start .pre .0) of-table)
 
--- src/lib.rt:96:9
+  few : i < 32
+  few = omega (arith, counted, judgeable .few)
+
+  core-in : Within 1 8 (getD (lent .core) i 0)
+  core-in = judgeable .core-in i counted
+
+  first-low : getD (lent .begins) (getD (lent .core) i 0 - 1) 0 ≤ 32
+  unfolding placeAt
+  first-low = omega (arith, judgeable .place-low i counted)
+
+  in-time : start .args .start ≤ getD (lent .latest) i 0
+  in-time = rw (of-table .lanes .latest-is i here) (start .pre .1 .1)
+
 place-requires : tie.Need-place-requires
-place-requires c κs = ?
+place-requires c κs = let filled = c .before .before .before in (few filled, first-low filled)
 
--- src/lib.rt:97:16
-mul-cost : tie.Need-mul-cost
-mul-cost c = ?
+stands : (c : tie.After-place) → c .place .result ≡ placeAt (lent (c .before .before .before .before)) (i (c .before .before .before .before))
+unfolding placeAt
+stands c = c .place .ensures
 
--- src/lib.rt:97:16
-element-copy-out-cost : tie.Need-element-copy-out-cost
-element-copy-out-cost c = ?
-
--- src/lib.rt:98:63
-mul-own-at : tie.Need-mul-own-at
-mul-own-at c = search needs
-
--- src/lib.rt:98:63
-array-read-own-at : tie.Need-array-read-own-at
-array-read-own-at c = ?
-
--- src/lib.rt:98:9
-own-at-requires : tie.Need-own-at-requires
-own-at-requires c κs = ?
-
--- src/lib.rt:99:5
 settle-requires : tie.Need-settle-requires
-settle-requires c κs = ?
+settle-requires c κs =
+    let filled = c .before .before .before .before .before .before .before .before .before .before .before .before .before in
+    let cost = cost-at (lent filled) (judgeable filled) (i filled) (counted filled) _ in (
+      c .before .before .before .before .before .before .before .before .before .before .before .inverses .ensures,
+      rw (c .before .before .before .before .before .own-at .ensures)
+          (here-ready (lent filled) (i filled) (stands (c .before .before .before .before .before .before .before .before .before)) cost (judgeable filled) _ (counted filled) (in-time filled)),
+    )
 
--- src/lib.rt:77:1
 returns : tie.Need-returns
-returns c = ?
+returns c =
+    let filled = c .before .before .before .before .before .before .before .before .before .before .before .before .before .before in
+    let cost = cost-at (lent filled) (judgeable filled) (i filled) (counted filled) _ in
+    let a = start filled .args in
+    let back : a .k - 1 + 1 ≡ a .k = omega (arith, start filled .pre .1 .0 .low) in
+    c .settle .ensures
+    ∙ rw (c .before .before .before .before .before .before .own-at .ensures) (ap (λ (m : Terms). climbed m (a .start)) (here-terms (lent filled) (i filled) (stands (c .before .before .before .before .before .before .before .before .before .before)) cost))
+    ∙ of-climbed (a .table) (start filled .pre .0) (of-table filled) (i filled) (here filled) (a .start)
+    ∙ ap (λ (k : ℕ). climbedFor (a .table) k (a .start)) back
 
 pub judge-task-spec : {M : Type 1} → statement M
 judge-task-spec =
     tie.close
-    (tie.spec
-    lanes-requires
-    priced-requires
-    grouped-requires
-    columns-requires
-    inverses-requires
-    sub-i
-    array-read-p
-    cast-p
-    sub-p
-    mul-first
-    array-read-first
-    place-requires
-    mul-cost
-    element-copy-out-cost
-    mul-own-at
-    array-read-own-at
-    own-at-requires
-    settle-requires
-    returns)
+    (tie.spec (λ c κs. (c .before .before .pre .0, refl, refl)) (λ c κs. c .before .before .before .pre .0) grouped-requires
+    (λ c κs. ((c .before .before .before .before .before .before .before .before .before .before .before .pre .0, c .before .before .before .before .grouped .ensures .low), (refl, refl, refl)))
+    (λ c κs. omega (arith, judgeable (c .before) .few)) (λ c. search needs) (λ c. few (c .before .before)) (λ c. omega (arith, core-in (c .before .before) .high)) (λ c. core-in (c .before .before) .low)
+    (λ c. omega (arith, core-in (c .before .before) .high)) (λ c. omega (arith, core-in (c .before .before) .high)) place-requires
+    (λ c. omega (arith, core-in (c .before .before .before .before) .high)) (λ c. omega (arith, core-in (c .before .before .before .before) .low, core-in (c .before .before .before .before) .high))
+    (λ c. omega (arith, few (c .before .before .before .before .before))) (λ c. few (c .before .before .before .before .before)) (λ c κs. let filled = c .before .before .before .before .before .before .before in omega (arith, stands (c .before .before .before), judgeable filled .place-low (i filled) (counted filled))) settle-requires returns)
