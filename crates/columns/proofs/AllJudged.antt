@@ -23,13 +23,14 @@ use Rattle.rules.proofs.Chain.{both-accepted}
 use Rattle.climb.specs.declared.Climbed.{Climbed}
 use Rattle.rounds.specs.Lent.{Lent, climbedAt, firstAfter, firstLowered, answeredOr, judgedLent}
 use Rattle.columns.specs.Numbered.{climbedFor, pricedOf}
-use Rattle.columns.proofs.OfTable.{OfTable, of-climbed, tasks-are}
+use Rattle.columns.specs.Held.{Held}
+use Rattle.columns.proofs.Holding.{of-climbed, tasks-are}
 
 where-true : {A : Type 0} {x y : A} (z : A) (b : Bool) → (b ≡ true → x ≡ y) → cond b x z ≡ cond b y z
 where-true z true e = e refl
 where-true z false e = refl
 
-module _ (t : Table) (passed : isAccepted (checkTable t) ≡ true) {l : Lent} (o : OfTable t l) (starts : List ℕ) where
+module _ (t : Table) (passed : isAccepted (checkTable t) ≡ true) {l : Lent} (o : Held t l) (starts : List ℕ) where
   climbed-is : (k : ℕ) → 1 ≤ k → k ≤ t .tasks → climbedAt l starts k ≡ climbedFor t k (entry 0 starts k)
   unfolding climbedAt
   climbed-is k low high =

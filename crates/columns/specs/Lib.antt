@@ -1,2 +1,3 @@
 -- What the contracts of judging a table cite beside the rules.
 pub mod Numbered
+pub mod Held

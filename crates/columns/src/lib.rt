@@ -12,7 +12,9 @@ ghost use Rattle.rules.specs.Refusals.{checkTable};
 ghost use Rattle.rules.specs.Operations.{judgeAll};
 ghost use Rattle.groups.specs.Grouped.{Low};
 ghost use Rattle.groups.specs.Lanes.{Lanes, Columns};
+ghost use Rattle.rounds.specs.Lent.{lentOf};
 ghost use Rattle.columns.specs.Numbered.{climbedFor, pricedOf};
+ghost use Rattle.columns.specs.Held.{Held};
 use climb::Climbed;
 use rounds::Priced;
 use rules::AllJudged;
@@ -73,6 +75,28 @@ fn priced(table: Table) -> Priced
     }
 }
 
+// All that judging needs of an accepted table.
+fn laid(
+    t: Table,
+    core: &mut [u8; 32],
+    latest: &mut [u64; 32],
+    from: &mut [usize; 9],
+    spans: &mut [u64; 33],
+    costs: &mut [u64; 33],
+    asks: &mut [u64; 33],
+) -> Priced
+    requires { ⌜ Sound t × (length (now core) ≡ 32) × (length (now latest) ≡ 32) ⌝ }
+    requires { ⌜ (length (now spans) ≡ 33) × (length (now costs) ≡ 33) × (length (now asks) ≡ 33) ⌝ }
+    ensures { λ r. ⌜ Held t (lentOf r (now (core .exit)) (now (latest .exit)) (now (from .exit)) (now (spans .exit)) (now (costs .exit)) (now (asks .exit))) ⌝ }
+{
+    lanes(t, core, latest);
+    let board = priced(t);
+    let mut order = [0usize; 33];
+    *from = groups::grouped(board.tasks, board.cores, core, &mut order);
+    columns(t, &order, spans, costs, asks);
+    board
+}
+
 // Task number k of an accepted table, from a start that is not late.
 pub fn judge_task(table: Table, k: u8, start: u64) -> Climbed
     requires { ⌜ Sound table ⌝ }
@@ -81,14 +105,11 @@ pub fn judge_task(table: Table, k: u8, start: u64) -> Climbed
 {
     let mut core = [0u8; 32];
     let mut latest = [0u64; 32];
-    lanes(table, &mut core, &mut latest);
-    let board = priced(table);
-    let mut order = [0usize; 33];
-    let from = groups::grouped(board.tasks, board.cores, &core, &mut order);
+    let mut from = [0usize; 9];
     let mut spans = [0u64; 33];
     let mut costs = [0u64; 33];
     let mut asks = [0u64; 33];
-    columns(table, &order, &mut spans, &mut costs, &mut asks);
+    let board = laid(table, &mut core, &mut latest, &mut from, &mut spans, &mut costs, &mut asks);
     let invs = climb::inverses(board.tasks, &spans);
     let i = (k as usize) - 1;
     let p = (core[i] as usize) - 1;
@@ -106,13 +127,10 @@ pub fn judge_tasks(table: Table, starts: [u64; 32]) -> AllJudged
 {
     let mut core = [0u8; 32];
     let mut latest = [0u64; 32];
-    lanes(table, &mut core, &mut latest);
-    let board = priced(table);
-    let mut order = [0usize; 33];
-    let from = groups::grouped(board.tasks, board.cores, &core, &mut order);
+    let mut from = [0usize; 9];
     let mut spans = [0u64; 33];
     let mut costs = [0u64; 33];
     let mut asks = [0u64; 33];
-    columns(table, &order, &mut spans, &mut costs, &mut asks);
+    let board = laid(table, &mut core, &mut latest, &mut from, &mut spans, &mut costs, &mut asks);
     rounds::judge_lent(board, &core, &latest, &starts, &from, &spans, &costs, &asks)
 }

@@ -11,36 +11,19 @@ use Rattle.climb.specs.Run.{climbed}
 use Rattle.rounds.specs.Lent.{Lent, lentOf, placeAt, Judgeable}
 use Rattle.rounds.proofs.Each.{here-terms, here-ready, cost-at}
 use Rattle.columns.specs.Numbered.{climbedFor}
-use Rattle.columns.proofs.OfTable.{OfTable, of-judgeable, of-climbed, tasks-are}
+use Rattle.columns.proofs.Holding.{of-judgeable, of-climbed, tasks-are}
 use Rattle.columns.proofs.judge_task.Statement.{statement}
 use Rattle.columns.proofs.judge_task.Tie as tie
 
-grouped-requires : tie.Need-grouped-requires
-grouped-requires c κs =
-    let board = c .before .before .priced .ensures in
-    let s = c .before .before .before .before .before .before .pre .0 in
-    ((rw board (s .tasks-in .high), rw board (s .cores-in .high)), low-zeros)
-
--- what is lent, once it is filled
-module _ (c : tie.After-columns) where
+-- what is lent
+module _ (c : tie.After-laid) where
   abbrev start : tie.Start
-  start = c .before .before .before .before .before .before .before .before .before .before .before .before
+  start = c .before .before .before .before .before .before .before
 
   abbrev lent : Lent
   lent =
-      lentOf (c .before .before .before .before .before .before .before .before .priced .result) (c .before .before .before .before .before .before .before .before .before .lanes .last .1 .0) (c .before .before .before .before .before .before .before .before .before .lanes .last .1 .1 .0)
-      (c .before .before .before .before .before .grouped .result) (c .columns .last .1 .1 .0) (c .columns .last .1 .1 .1 .0) (c .columns .last .1 .1 .1 .1 .0)
-
-  of-table : OfTable (start .args .table) lent
-  of-table =
-      record {
-        board-is = c .before .before .before .before .before .before .before .before .priced .ensures;
-        lanes = c .before .before .before .before .before .before .before .before .before .lanes .ensures;
-        order = c .before .before .before .before .before .grouped .last .1 .1 .1 .0;
-        ordered = rw (c .before .before .before .before .before .before .before .before .priced .ensures) at (c .before .before .before .before .before .grouped .ensures);
-        columns = c .columns .ensures;
-      }
-
+      lentOf (c .laid .result) (c .laid .last .1 .0) (c .laid .last .1 .1 .0) (c .laid .last .1 .1 .1 .0) (c .laid .last .1 .1 .1 .1 .0) (c .laid .last .1 .1 .1 .1 .1 .0)
+      (c .laid .last .1 .1 .1 .1 .1 .1 .0)
 
   -- the task's place
   abbrev i : ℕ
@@ -50,10 +33,10 @@ module _ (c : tie.After-columns) where
   here = omega (arith, start .pre .1 .0 .low, start .pre .1 .0 .high)
 
   judgeable : Judgeable lent
-  judgeable = of-judgeable (start .args .table) (start .pre .0) of-table
+  judgeable = of-judgeable (start .args .table) (start .pre .0) (c .laid .ensures)
 
   counted : i < lent .board .tasks
-  counted = omega (arith, here, tasks-are (start .args .table) (start .pre .0) of-table)
+  counted = omega (arith, here, tasks-are (start .args .table) (start .pre .0) (c .laid .ensures))
 
   few : i < 32
   few = omega (arith, counted, judgeable .few)
@@ -66,7 +49,7 @@ module _ (c : tie.After-columns) where
   first-low = omega (arith, judgeable .place-low i counted)
 
   in-time : start .args .start ≤ getD (lent .latest) i 0
-  in-time = rw (of-table .lanes .latest-is i here) (start .pre .1 .1)
+  in-time = rw ((c .laid .ensures) .lanes .latest-is i here) (start .pre .1 .1)
 
 place-requires : tie.Need-place-requires
 place-requires c κs = let filled = c .before .before .before in (few filled, first-low filled)
@@ -92,15 +75,15 @@ returns c =
     let back : a .k - 1 + 1 ≡ a .k = omega (arith, start filled .pre .1 .0 .low) in
     c .settle .ensures
     ∙ rw (c .before .before .before .before .before .before .own-at .ensures) (ap (λ (m : Terms). climbed m (a .start)) (here-terms (lent filled) (i filled) (stands (c .before .before .before .before .before .before .before .before .before .before)) cost))
-    ∙ of-climbed (a .table) (start filled .pre .0) (of-table filled) (i filled) (here filled) (a .start)
+    ∙ of-climbed (a .table) (start filled .pre .0) (filled .laid .ensures) (i filled) (here filled) (a .start)
     ∙ ap (λ (k : ℕ). climbedFor (a .table) k (a .start)) back
 
 pub judge-task-spec : {M : Type 1} → statement M
 judge-task-spec =
     tie.close
-    (tie.spec (λ c κs. (c .before .before .pre .0, refl, refl)) (λ c κs. c .before .before .before .pre .0) grouped-requires
-    (λ c κs. ((c .before .before .before .before .before .before .before .before .before .before .before .pre .0, c .before .before .before .before .grouped .ensures .low), (refl, refl, refl)))
-    (λ c κs. omega (arith, judgeable (c .before) .few)) (λ c. search needs) (λ c. few (c .before .before)) (λ c. omega (arith, core-in (c .before .before) .high)) (λ c. core-in (c .before .before) .low)
+    (tie.spec (λ c κs. ((c .before .before .before .before .before .before .pre .0, refl, refl), (refl, refl, refl))) (λ c κs. omega (arith, judgeable (c .before) .few)) (λ c. search needs)
+    (λ c. few (c .before .before)) (λ c. omega (arith, core-in (c .before .before) .high)) (λ c. core-in (c .before .before) .low)
     (λ c. omega (arith, core-in (c .before .before) .high)) (λ c. omega (arith, core-in (c .before .before) .high)) place-requires
     (λ c. omega (arith, core-in (c .before .before .before .before) .high)) (λ c. omega (arith, core-in (c .before .before .before .before) .low, core-in (c .before .before .before .before) .high))
-    (λ c. omega (arith, few (c .before .before .before .before .before))) (λ c. few (c .before .before .before .before .before)) (λ c κs. let filled = c .before .before .before .before .before .before .before in omega (arith, stands (c .before .before .before), judgeable filled .place-low (i filled) (counted filled))) settle-requires returns)
+    (λ c. omega (arith, few (c .before .before .before .before .before))) (λ c. few (c .before .before .before .before .before))
+    (λ c κs. let filled = c .before .before .before .before .before .before .before in omega (arith, stands (c .before .before .before), judgeable filled .place-low (i filled) (counted filled))) settle-requires returns)

@@ -28,15 +28,9 @@ use Rattle.climb.specs.Run.{Ready, climbed}
 use Rattle.rounds.specs.declared.Priced.{Priced}
 use Rattle.rounds.specs.Lent.{Lent, ownWith, placeAt, ownAt, termsAt, climbedAt, Judgeable}
 use Rattle.columns.specs.Numbered.{climbedFor, pricedOf}
+use Rattle.columns.specs.Held.{Held}
 use Rattle.columns.proofs.FromPlace.{From}
 use Rattle.columns.proofs.Stands.{GroupAt, Grouped, Above, termsFor, climbed-same, ready-for}
-
-pub record OfTable (t : Table) (l : Lent) : Type 0 where
-  pub board-is : l .board ≡ pricedOf t
-  pub lanes : Lanes (t .task) (t .tasks) (l .core) (l .latest)
-  pub order : List ℕ
-  pub ordered : Ordered (t .cores) (t .tasks) (l .core) (l .begins) order
-  pub columns : Columns (t .task) (t .tasks) order (l .periods) (l .execs) (l .asks)
 
 -- the task in place i
 abbrev taskIn : Table → ℕ → Task
@@ -46,7 +40,7 @@ one-of : {A B : Type 0} (f : A → B) (b : Bool) (x : A) → map f (cond b (x �
 one-of f true x = refl
 one-of f false x = refl
 
-module _ (t : Table) (s : Sound t) {l : Lent} (o : OfTable t l) where
+module _ (t : Table) (s : Sound t) {l : Lent} (o : Held t l) where
   -- the tasks on core q among the first i are those in its places
   on-places : (q i : ℕ) → i ≤ t .tasks → those (isOn q) (take i (t .task)) ≡ map (taskIn t) (placesOn (l .core) q i)
   on-places q zero h = rw (places-none (l .core) q)
