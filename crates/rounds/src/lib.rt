@@ -60,7 +60,7 @@ pub fn judge_task(table: Table, k: u8, start: u64) -> Climbed
         first,
         groups::place(table, i, first),
     );
-    let invs = climb::inverses(table.tasks as usize, &spans);
+    let invs = counts::inverses(table.tasks as usize, &spans);
     climb::settle(own, &from, &spans, &invs, &costs, &asks, start)
 }
 
@@ -118,7 +118,7 @@ fn judge_each(
     let tasks = table.tasks as usize;
     let miss = missed();
     let mut answers = [miss; 32];
-    let invs = climb::inverses(tasks, spans);
+    let invs = counts::inverses(tasks, spans);
     let mut next = *from;
     let mut i: usize = 0;
     while i < tasks {

@@ -2,8 +2,8 @@
 use borrow.Author.Needs.{needs}
 use Prim.Native.Nat.{_≤_, _*_, _^_}
 use native.Mathlib.Omega.{arith}
+use Rattle.counts.proofs.Sums.{few-high, slots-wider}
 use Rattle.climb.specs.Terms.{jobOf}
-use Rattle.climb.proofs.Sums.{few-high, slots-wider}
 use Rattle.climb.proofs.Cut.{by-request, by-job}
 use Rattle.climb.proofs.apply.Statement.{statement}
 use Rattle.climb.proofs.apply.Tie as tie

@@ -2,7 +2,7 @@
 use Prim.Native.Nat.{zero-le, _≤_, _-_, _*_, _^_}
 use native.Mathlib.Nat.{mul-zero, mul-le-mul}
 use native.Mathlib.Omega.{arith}
-use Rattle.climb.proofs.Sums.{asked-high, slots-wider}
+use Rattle.counts.proofs.Sums.{asked-high, slots-wider}
 use Rattle.climb.proofs.charged.Statement.{statement}
 use Rattle.climb.proofs.charged.Tie as tie
 

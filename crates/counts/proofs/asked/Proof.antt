@@ -5,10 +5,10 @@ use Prim.Native.Nat.{_+_, _≤_, _*_, _-_, _^_}
 use native.Mathlib.Nat.{mul-le-mul}
 use native.Mathlib.Omega.{arith}
 use lib.ListN.{getD}
-use Rattle.climb.specs.Terms.{released}
-use Rattle.climb.proofs.Sums.{SoFar, so-far-none, so-far-next}
-use Rattle.climb.proofs.asked.Statement.{statement}
-use Rattle.climb.proofs.asked.Tie as tie
+use Rattle.counts.specs.Counts.{released}
+use Rattle.counts.proofs.Sums.{SoFar, so-far-none, so-far-next}
+use Rattle.counts.proofs.asked.Statement.{statement}
+use Rattle.counts.proofs.asked.Tie as tie
 
 abbrev Inv-loop : tie.InvT-loop
 Inv-loop a e periods invs costs carried t sum₀ i₀ sum i = (i ≤ e) × SoFar (released carried t periods costs) (10001 * 10 ^ 12) a i sum

@@ -7,8 +7,8 @@ use native.Mathlib.Numerals.{add-one}
 use native.Mathlib.Omega.{arith}
 use lib.ListN.{getD}
 use Rattle.laws.specs.Idioms.{_/↑_}
-use Rattle.climb.specs.Terms.{sumBelow, sumFrom, released, askedBy, Slots}
-use Rattle.climb.proofs.Quotients.{up-high}
+use Rattle.counts.specs.Counts.{sumBelow, sumFrom, released, askedBy, Slots}
+use Rattle.counts.proofs.Quotients.{up-high}
 
 pub below-next : (f : ℕ → ℕ) (n : ℕ) → sumBelow f (n + 1) ≡ sumBelow f n + f n
 unfolding sumBelow

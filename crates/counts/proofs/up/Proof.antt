@@ -3,9 +3,9 @@ use borrow.Author.Needs.{needs}
 use Prim.Native.Nat.{_≤_, _*_, _/_, _^_}
 use native.Mathlib.Nat.{mul-le-mul}
 use native.Mathlib.Omega.{arith}
-use Rattle.climb.proofs.Quotients.{up-high, guessed, guess-product, guess-high}
-use Rattle.climb.proofs.up.Statement.{statement}
-use Rattle.climb.proofs.up.Tie as tie
+use Rattle.counts.proofs.Quotients.{up-high, guessed, guess-product, guess-high}
+use Rattle.counts.proofs.up.Statement.{statement}
+use Rattle.counts.proofs.up.Tie as tie
 
 product-high : (c : tie.Start) → c .args .t / 256 * c .args .inv ≤ 3906250000 * 2882303762
 product-high c = guess-product (c .args .t) (c .args .inv) (c .pre .0 .0) (c .pre .1)

@@ -1,0 +1,76 @@
+// How many periods begin in a time, and what tasks ask for in it.
+ghost use mathlib.Core.Path.{_≡_};
+ghost use Prim.Native.Nat.{_^_, _≤_};
+ghost use Rattle.laws.specs.Idioms.{Within};
+ghost use Rattle.counts.specs.Counts.{Counted, Small, Slots, askedBy};
+
+// "t/T rounded up"
+fn divided(t: u64, period: u64) -> u64
+    requires { ⌜ (t ≤ 10 ^ 12) × Within (10 ^ 8) (10 ^ 12) period ⌝ }
+    ensures { λ r. ⌜ Counted t period r ⌝ }
+{
+    (t + (period - 1)) / period
+}
+
+// About 2^58 divided by a period. What counts with it tests what it gives, so this is free to be anything that is not too large.
+fn inverse(period: u64) -> u64
+    ensures { λ r. ⌜ r ≤ 2882303762 ⌝ }
+{
+    if period < 100000000 {
+        return 0;
+    }
+    288230376151711744 / period
+}
+
+// That of the first n periods.
+pub fn inverses(n: usize, periods: &[u64; 33]) -> [u64; 33]
+    requires { ⌜ n ≤ 33 ⌝ }
+    ensures { λ r. ⌜ Small r ⌝ }
+{
+    let mut out = [0u64; 33];
+    let mut i: usize = 0;
+    while i < n {
+        out[i] = inverse(periods[i]);
+        i += 1;
+    }
+    out
+}
+
+// "t/T rounded up", guessed by a multiplication and tested; divided where the guess is wrong.
+fn up(t: u64, period: u64, inv: u64) -> u64
+    requires { ⌜ (t ≤ 10 ^ 12) × Within (10 ^ 8) (10 ^ 12) period ⌝ }
+    requires { ⌜ inv ≤ 2882303762 ⌝ }
+    ensures { λ r. ⌜ Counted t period r ⌝ }
+{
+    let guess = ((t >> 8) * inv) >> 50;
+    let below = guess * period;
+    if below < t {
+        if t - below <= period {
+            return guess + 1;
+        }
+    }
+    divided(t, period)
+}
+
+// What the tasks in places a to e ask for in t, of what each job costs, and each with so many jobs carried in.
+pub fn asked(
+    a: usize,
+    e: usize,
+    periods: &[u64; 33],
+    invs: &[u64; 33],
+    costs: &[u64; 33],
+    carried: u64,
+    t: u64,
+) -> u64
+    requires { ⌜ (t ≤ 10 ^ 12) × (carried ≤ 1) × Small (now invs) ⌝ }
+    requires { ⌜ Slots (10 ^ 12) a e (now periods) (now costs) ⌝ }
+    ensures { λ r. ⌜ r ≡ askedBy carried t a e (now (periods .entry)) (now (costs .entry)) ⌝ }
+{
+    let mut sum: u64 = 0;
+    let mut i = a;
+    while i < e {
+        sum += (up(t, periods[i], invs[i]) + carried) * costs[i];
+        i += 1;
+    }
+    sum
+}
