@@ -36,18 +36,17 @@ pub fn inverses(n: usize, periods: &[u64; 33]) -> [u64; 33]
     out
 }
 
-// "t/T rounded up", guessed by a multiplication and tested; divided where the guess is wrong.
+// "t/T rounded up", guessed by a multiplication and tested; divided where the guess is wrong. The test is one: a difference that would be below 0,
+// because t is 0 or the guess is too large, wraps and is no less than any period.
 fn up(t: u64, period: u64, inv: u64) -> u64
     requires { ⌜ (t ≤ 10 ^ 12) × Within (10 ^ 8) (10 ^ 12) period ⌝ }
     requires { ⌜ inv ≤ 2882303762 ⌝ }
     ensures { λ r. ⌜ Counted t period r ⌝ }
 {
     let guess = ((t >> 8) * inv) >> 50;
-    let below = guess * period;
-    if below < t {
-        if t - below <= period {
-            return guess + 1;
-        }
+    let over = std::num::wrapping_sub_u64(std::num::wrapping_sub_u64(t, 1), guess * period);
+    if over < period {
+        return guess + 1;
     }
     divided(t, period)
 }
