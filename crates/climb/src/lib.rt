@@ -50,7 +50,7 @@ fn charged(
     if weight == 0 {
         return 0;
     }
-    counts::asked(a, e, periods, invs, asks, 1, t) * weight
+    counts::asked(a, e, periods, invs, asks, t) * weight
 }
 
 // The judged task's own figures: C, H and the latest allowed response; RD of its core, and the weight there of one request of each core; how
@@ -115,8 +115,9 @@ fn apply(
     requires { ⌜ Fair (termsOf own (now from) (now periods) (now execs) (now asks)) ⌝ }
     ensures { λ r. ⌜ r ≡ applied (termsOf own (now (from .entry)) (now (periods .entry)) (now (execs .entry)) (now (asks .entry))) t ⌝ }
 {
-    let exec = own.exec + counts::asked(own.first, own.place, periods, invs, execs, 0, t);
-    let requests = own.requests + counts::asked(own.first, own.place, periods, invs, asks, 0, t);
+    let higher = counts::asked_higher(own.first, own.place, periods, invs, execs, asks, t);
+    let exec = own.exec + higher.execs;
+    let requests = own.requests + higher.requests;
     let delay = own.delay;
     let request = capped(delay, requests);
     let job = job(own, from, periods, invs, asks, t);

@@ -7,7 +7,7 @@ use native.Mathlib.Numerals.{add-one}
 use native.Mathlib.Omega.{arith}
 use lib.ListN.{getD}
 use Rattle.laws.specs.Idioms.{_/↑_}
-use Rattle.counts.specs.Counts.{sumBelow, sumFrom, released, askedBy, Slots}
+use Rattle.counts.specs.Counts.{sumBelow, sumFrom, released, askedBy, Counted, Slots}
 use Rattle.counts.proofs.Quotients.{up-high}
 
 pub below-next : (f : ℕ → ℕ) (n : ℕ) → sumBelow f (n + 1) ≡ sumBelow f n + f n
@@ -29,26 +29,32 @@ unfolding sumBelow
 below-high f zero highest h = zero-le
 below-high f (suc n) highest h = omega (arith, h n (omega arith), below-high f n highest (λ q l. h q (omega arith)))
 
--- what a loop from place a has summed at place i, where no term is above a highest
-pub record SoFar (f : ℕ → ℕ) (highest a i s : ℕ) : Type 0 where
+-- what a loop over places a to e has found asked for at place i
+pub record Asking (carried t a e : ℕ) (periods costs : List ℕ) (i s : ℕ) : Type 0 where
+  pub slots : Slots (10 ^ 12) a e periods costs
+  pub few : carried ≤ 1
   pub low : a ≤ i
-  pub is : s ≡ sumFrom f a i
-  pub high : s ≤ (i - a) * highest
+  pub is : s ≡ askedBy carried t a i periods costs
+  pub high : s ≤ (i - a) * (10001 * 10 ^ 12)
 
-module _ {f : ℕ → ℕ} {highest a : ℕ} where
-  pub so-far-none : SoFar f highest a a 0
+module _ {carried t a e : ℕ} {periods costs : List ℕ} where
+  pub asking-none : Slots (10 ^ 12) a e periods costs → carried ≤ 1 → Asking carried t a e periods costs a 0
   unfolding sumFrom sumBelow
-  so-far-none = record { low = le-refl a; is = rw sub-self; high = zero-le }
+  asking-none slots few = record { slots = slots; few = few; low = le-refl a; is = rw sub-self; high = zero-le }
 
-  pub so-far-next : {i s x : ℕ} → SoFar f highest a i s → x ≡ f i → x ≤ highest → SoFar f highest a (i + 1) (s + x)
-  unfolding sumFrom
-  so-far-next {i} so e l =
+  pub asking-next : {i s next count : ℕ} → Asking carried t a e periods costs i s → i < e → Counted t (getD periods i 0) count
+      → next ≡ s + (count + carried) * getD costs i 0 → Asking carried t a e periods costs (i + 1) next
+  unfolding sumFrom released
+  asking-next {i} {count = count} so here counted sum =
       let more : i + 1 - a ≡ i - a + 1 = omega (arith, so .low) in
-      let here : a + (i - a) ≡ i = omega (arith, so .low) in
+      let place : a + (i - a) ≡ i = omega (arith, so .low) in
+      let jobs : count + carried ≤ 10001 = omega (arith, counted .high, so .few) in
       record {
+        slots = so .slots;
+        few = so .few;
         low = omega (arith, so .low);
-        is = rw (more, below-next (λ j. f (a + j)) (i - a), here) (omega (arith, so .is));
-        high = rw more (omega (arith, so .high));
+        is = rw (more, below-next (λ j. released carried t periods costs (a + j)) (i - a), place, ← counted .is) (omega (arith, so .is));
+        high = rw more (omega (arith, so .high, mul-le-mul jobs (so .slots .cost i (so .low) here)));
       }
 
 -- what one place asks for

@@ -51,25 +51,60 @@ fn up(t: u64, period: u64, inv: u64) -> u64
     divided(t, period)
 }
 
-// What the tasks in places a to e ask for in t, of what each job costs, and each with so many jobs carried in.
+// What the tasks in places a to e ask for in t, of what each job costs, each with the job that it carries in.
 pub fn asked(
     a: usize,
     e: usize,
     periods: &[u64; 33],
     invs: &[u64; 33],
     costs: &[u64; 33],
-    carried: u64,
     t: u64,
 ) -> u64
-    requires { ⌜ (t ≤ 10 ^ 12) × (carried ≤ 1) × Small (now invs) ⌝ }
+    requires { ⌜ (t ≤ 10 ^ 12) × Small (now invs) ⌝ }
     requires { ⌜ Slots (10 ^ 12) a e (now periods) (now costs) ⌝ }
-    ensures { λ r. ⌜ r ≡ askedBy carried t a e (now (periods .entry)) (now (costs .entry)) ⌝ }
+    ensures { λ r. ⌜ r ≡ askedBy 1 t a e (now (periods .entry)) (now (costs .entry)) ⌝ }
 {
     let mut sum: u64 = 0;
     let mut i = a;
     while i < e {
-        sum += (up(t, periods[i], invs[i]) + carried) * costs[i];
+        sum += (up(t, periods[i], invs[i]) + 1) * costs[i];
         i += 1;
     }
     sum
+}
+
+// What the higher tasks of a core ask it for: C and H.
+pub struct Higher {
+    pub execs: u64,
+    pub requests: u64,
+}
+
+// That of the tasks in places a to e in t, none with a job carried in. Each is counted once for both.
+pub fn asked_higher(
+    a: usize,
+    e: usize,
+    periods: &[u64; 33],
+    invs: &[u64; 33],
+    execs: &[u64; 33],
+    asks: &[u64; 33],
+    t: u64,
+) -> Higher
+    requires { ⌜ (t ≤ 10 ^ 12) × Small (now invs) ⌝ }
+    requires { ⌜ Slots (10 ^ 12) a e (now periods) (now execs) × Slots (10 ^ 12) a e (now periods) (now asks) ⌝ }
+    ensures { λ r. ⌜ r .execs ≡ askedBy 0 t a e (now (periods .entry)) (now (execs .entry)) ⌝ }
+    ensures { λ r. ⌜ r .requests ≡ askedBy 0 t a e (now (periods .entry)) (now (asks .entry)) ⌝ }
+{
+    let mut exec_sum: u64 = 0;
+    let mut request_sum: u64 = 0;
+    let mut i = a;
+    while i < e {
+        let count = up(t, periods[i], invs[i]);
+        exec_sum += count * execs[i];
+        request_sum += count * asks[i];
+        i += 1;
+    }
+    Higher {
+        execs: exec_sum,
+        requests: request_sum,
+    }
 }

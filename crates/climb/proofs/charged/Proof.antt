@@ -16,5 +16,5 @@ pub charged-spec : {M : Type 1} → statement M
 charged-spec =
     tie.close
     (tie.spec (λ c. record { is = simp (c .if1 .taken, mul-zero); high = zero-le })
-    (λ c κs. let p = c .before .pre in ((p .0 .0, omega arith, p .0 .2), slots-wider (p .1)))
+    (λ c κs. let p = c .before .pre in ((p .0 .0, p .0 .2), slots-wider (p .1)))
     (λ c. omega (arith, cost-high c, c .before .before .pre .1 .few)) (λ c. record { is = rw (c .asked .ensures); high = cost-high c }))
