@@ -2,7 +2,7 @@
 ghost use mathlib.Core.Path.{_≡_};
 ghost use Prim.Native.Nat.{_^_, _≤_};
 ghost use Rattle.laws.specs.Idioms.{Within};
-ghost use Rattle.counts.specs.Counts.{Counted, Small, Slots, askedBy};
+ghost use Rattle.counts.specs.Counts.{Summed, Counted, Small, Slots};
 
 // "t/T rounded up"
 fn divided(t: u64, period: u64) -> u64
@@ -51,23 +51,23 @@ fn up(t: u64, period: u64, inv: u64) -> u64
     divided(t, period)
 }
 
-// What the tasks in places a to e ask for in t, of what each job costs, each with the job that it carries in.
+// What the tasks in places a to e ask for in t, of H, each with the job that it carries in.
 pub fn asked(
     a: usize,
     e: usize,
     periods: &[u64; 33],
     invs: &[u64; 33],
-    costs: &[u64; 33],
+    asks: &[u64; 33],
     t: u64,
 ) -> u64
     requires { ⌜ (t ≤ 10 ^ 12) × Small (now invs) ⌝ }
-    requires { ⌜ Slots (10 ^ 12) a e (now periods) (now costs) ⌝ }
-    ensures { λ r. ⌜ r ≡ askedBy 1 t a e (now (periods .entry)) (now (costs .entry)) ⌝ }
+    requires { ⌜ Slots (10 ^ 6) a e (now periods) (now asks) ⌝ }
+    ensures { λ r. ⌜ Summed (10 ^ 6) 1 t a e (now (periods .entry)) (now (asks .entry)) r ⌝ }
 {
     let mut sum: u64 = 0;
     let mut i = a;
     while i < e {
-        sum += (up(t, periods[i], invs[i]) + 1) * costs[i];
+        sum += (up(t, periods[i], invs[i]) + 1) * asks[i];
         i += 1;
     }
     sum
@@ -90,9 +90,10 @@ pub fn asked_higher(
     t: u64,
 ) -> Higher
     requires { ⌜ (t ≤ 10 ^ 12) × Small (now invs) ⌝ }
-    requires { ⌜ Slots (10 ^ 12) a e (now periods) (now execs) × Slots (10 ^ 12) a e (now periods) (now asks) ⌝ }
-    ensures { λ r. ⌜ r .execs ≡ askedBy 0 t a e (now (periods .entry)) (now (execs .entry)) ⌝ }
-    ensures { λ r. ⌜ r .requests ≡ askedBy 0 t a e (now (periods .entry)) (now (asks .entry)) ⌝ }
+    requires { ⌜ Slots (10 ^ 12) a e (now periods) (now execs) ⌝ }
+    requires { ⌜ Slots (10 ^ 6) a e (now periods) (now asks) ⌝ }
+    ensures { λ r. ⌜ Summed (10 ^ 12) 0 t a e (now (periods .entry)) (now (execs .entry)) (r .execs) ⌝ }
+    ensures { λ r. ⌜ Summed (10 ^ 6) 0 t a e (now (periods .entry)) (now (asks .entry)) (r .requests) ⌝ }
 {
     let mut exec_sum: u64 = 0;
     let mut request_sum: u64 = 0;

@@ -1,23 +1,23 @@
 -- What tasks ask for, place by place. Assumes nothing.
 use borrow.Author.Needs.{needs}
 use mathlib.Core.Path.{_≡_}
-use Prim.Native.Nat.{_≤_, _-_}
+use Prim.Native.Nat.{_≤_, _-_, _^_}
 use native.Mathlib.Omega.{arith}
 use Rattle.counts.proofs.Sums.{Asking, asking-none, asking-next}
 use Rattle.counts.proofs.asked.Statement.{statement}
 use Rattle.counts.proofs.asked.Tie as tie
 
 abbrev Inv-loop : tie.InvT-loop
-Inv-loop a e periods invs costs t sum₀ i₀ sum i = (i ≤ e) × Asking 1 t a e periods costs i sum
+Inv-loop a e periods invs asks t sum₀ i₀ sum i = (i ≤ e) × Asking (10 ^ 6) 1 t a e periods asks i sum
 
 abbrev μ-loop : tie.MeasureT-loop
-μ-loop a e periods invs costs t sum₀ i₀ sum i = e - i
+μ-loop a e periods invs asks t sum₀ i₀ sum i = e - i
 
 loop-again : tie.Need-loop-again Inv-loop μ-loop
 loop-again c = (search needs, asking-next (c .before .before .before .before .before .loop .inv .1) (search needs) (c .before .up .ensures) (omega arith))
 
 returns : tie.Need-returns Inv-loop μ-loop
-returns c = let last : c .before .loop .i ≡ c .before .before .args .e = omega arith in rw last at (c .before .loop .inv .1 .is)
+returns c = let last : c .before .loop .i ≡ c .before .before .args .e = omega arith in rw last at (c .before .loop .inv .1 .sum)
 
 pub asked-spec : {M : Type 1} → statement M
 asked-spec =
@@ -25,5 +25,5 @@ asked-spec =
     (tie.spec Inv-loop μ-loop (λ c. (search needs, asking-none (c .pre .1) (omega arith))) (λ c. search needs) (λ c. search needs) (λ c. search needs)
     (λ c. search needs)
     (λ c κs. let p = c .before .before .before .before .pre in let l = c .before .before .before .loop in ((p .0 .0, p .1 .period (l .i) (l .inv .1 .low) (search needs)), p .0 .1 .each (l .i)))
-    (λ c. search needs) (λ c. search needs) (λ c. search needs) (λ c. omega (arith, loop-again c .1 .high)) (λ c. omega (arith, loop-again c .1 .high))
+    (λ c. search needs) (λ c. search needs) (λ c. search needs) (λ c. omega (arith, loop-again c .1 .sum .high)) (λ c. omega (arith, loop-again c .1 .sum .high))
     (λ c. search needs) (λ c. search needs) loop-again returns)

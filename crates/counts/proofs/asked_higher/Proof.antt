@@ -1,7 +1,7 @@
 -- What higher tasks ask for, place by place. Assumes nothing.
 use borrow.Author.Needs.{needs}
 use mathlib.Core.Path.{_≡_, refl}
-use Prim.Native.Nat.{_≤_, _-_}
+use Prim.Native.Nat.{_≤_, _-_, _^_}
 use native.Mathlib.Omega.{arith}
 use Rattle.counts.proofs.Sums.{Asking, asking-none, asking-next}
 use Rattle.counts.proofs.asked_higher.Statement.{statement}
@@ -9,7 +9,7 @@ use Rattle.counts.proofs.asked_higher.Tie as tie
 
 abbrev Inv-loop : tie.InvT-loop
 Inv-loop a e periods invs execs asks t exec-sum₀ request-sum₀ i₀ exec-sum request-sum i =
-    (i ≤ e) × Asking 0 t a e periods execs i exec-sum × Asking 0 t a e periods asks i request-sum
+    (i ≤ e) × Asking (10 ^ 12) 0 t a e periods execs i exec-sum × Asking (10 ^ 6) 0 t a e periods asks i request-sum
 
 abbrev μ-loop : tie.MeasureT-loop
 μ-loop a e periods invs execs asks t exec-sum₀ request-sum₀ i₀ exec-sum request-sum i = e - i
@@ -24,10 +24,10 @@ returns : tie.Need-returns Inv-loop μ-loop
 returns c =
     let l = c .before .loop in
     let last : l .i ≡ c .before .before .args .e = omega arith in
-    (rw last at (l .inv .1 .is), rw last at (l .inv .2 .is))
+    (rw last at (l .inv .1 .sum), rw last at (l .inv .2 .sum))
 
 add-exec-sum : tie.Need-add-exec-sum Inv-loop μ-loop
-add-exec-sum c = omega (arith, asking-next (c .before .before .before .before .before .loop .inv .1) (search needs) (c .before .up .ensures) refl .high)
+add-exec-sum c = omega (arith, asking-next (c .before .before .before .before .before .loop .inv .1) (search needs) (c .before .up .ensures) refl .sum .high)
 
 pub asked-higher-spec : {M : Type 1} → statement M
 asked-higher-spec =
@@ -36,5 +36,5 @@ asked-higher-spec =
     (λ c. search needs) (λ c. search needs) (λ c. search needs) (λ c. search needs)
     (λ c κs. let p = c .before .before .before .before .pre in let l = c .before .before .before .loop in ((p .0 .0, p .1 .0 .period (l .i) (l .inv .1 .low) (search needs)), p .0 .1 .each (l .i)))
     (λ c. search needs) (λ c. search needs) (λ c. omega (arith, add-exec-sum c)) add-exec-sum (λ c. search needs) (λ c. search needs)
-    (λ c. omega (arith, loop-again c .2 .high)) (λ c. omega (arith, loop-again c .2 .high))
+    (λ c. omega (arith, loop-again c .2 .sum .high)) (λ c. omega (arith, loop-again c .2 .sum .high))
     (λ c. search needs) (λ c. search needs) loop-again returns)
