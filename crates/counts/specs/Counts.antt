@@ -20,7 +20,7 @@ released carried t periods costs i = (t /↑ getD periods i 0 + carried) * getD 
 abbrev pub askedBy : ℕ → ℕ → ℕ → ℕ → List ℕ → List ℕ → ℕ
 askedBy carried t a e periods costs = sumFrom (released carried t periods costs) a e
 
--- what places ask for, which is at most so much for each
+-- what places a to e ask for, which is at most so much for each
 pub record Summed (highest carried t a e : ℕ) (periods costs : List ℕ) (r : ℕ) : Type 0 where
   pub is : r ≡ askedBy carried t a e periods costs
   pub high : r ≤ (e - a) * (10001 * highest)

@@ -51,7 +51,7 @@ fn up(t: u64, period: u64, inv: u64) -> u64
     divided(t, period)
 }
 
-// What the tasks in places a to e ask for in t, of H, each with the job that it carries in.
+// "A(q, t)": the requests in t of the tasks of a core, those in places a to e, each with the job that it carries in.
 pub fn asked(
     a: usize,
     e: usize,
@@ -73,13 +73,13 @@ pub fn asked(
     sum
 }
 
-// What the higher tasks of a core ask it for: C and H.
+// What the higher tasks of a core ask for: the sums of C and of H.
 pub struct Higher {
     pub execs: u64,
     pub requests: u64,
 }
 
-// That of the tasks in places a to e in t, none with a job carried in. Each is counted once for both.
+// That of the tasks in places a to e in t, with no job carried in. Each task is counted once for both sums.
 pub fn asked_higher(
     a: usize,
     e: usize,
