@@ -4,9 +4,10 @@ use mathlib.Core.List.{List}
 use Prim.Native.Nat.{ℕ, _+_, _*_, _≤_, _^_, zero-le}
 use native.Mathlib.Omega.{arith}
 use lib.ListN.{getD}
+use Rattle.counts.specs.Counts.{sumBelow}
+use Rattle.counts.proofs.Sums.{below-next}
 use Rattle.climb.specs.declared.Own.{Own}
-use Rattle.climb.specs.Terms.{sumBelow, chargeOf, Group, Charged}
-use Rattle.climb.proofs.Sums.{below-next}
+use Rattle.climb.specs.Terms.{chargeOf, Group, Charged}
 
 -- what the cores before place q cost: at most so much for each of their tasks
 pub record Added (own : Own) (starts periods asks : List ℕ) (t q s : ℕ) : Type 0 where

@@ -19,11 +19,11 @@ use Rattle.equation.proofs.Loop.{Round, starts, Midway, midway-next, midway-hol
 use Rattle.rules.specs.declared.Verdict.the-variants.{Holds, Misses}
 use Rattle.rules.specs.Units.{ps}
 use Rattle.rules.specs.Judgement.{misses, withDelay}
+use Rattle.counts.proofs.Sums.{below-mono, asked-mono}
 use Rattle.climb.specs.Terms.{Terms, aboveOf, chargeOf, requestOf, jobOf, timeOf, byOf, applied}
 use Rattle.climb.specs.declared.Applied.{Applied}
 use Rattle.climb.specs.declared.Climbed.{Climbed}
 use Rattle.climb.specs.Run.{lowestOf, startFrom, Ready, answerOf, isHigh, climbed}
-use Rattle.climb.proofs.Sums.{below-mono, asked-mono}
 
 module _ (t u : ℕ) (h : t ≤ u) (m : Terms) where
   above-rises : (costs : List ℕ) → aboveOf m costs t ≤ aboveOf m costs u

@@ -1,46 +1,15 @@
 -- The response equation of one task from plain lists: what the arrays that the rounds borrow stand for. Assumes nothing.
-use Prim.Native.Nat.{ℕ, zero, suc, _+_, _*_, _-_, _≤_, _<_, _^_, min}
+use Prim.Native.Nat.{ℕ, _+_, _*_, _-_, _≤_, _<_, _^_, min}
 use mathlib.Core.Path.{_≡_}
 use mathlib.Core.Bool.{cond}
 use mathlib.Core.List.{List}
 use lib.Dec.{leb}
 use lib.ListN.{getD}
-use Rattle.laws.specs.Idioms.{_/↑_, Within}
 use Rattle.rules.specs.declared.Delay.{Delay}
 use Rattle.rules.specs.declared.Delay.the-variants.{Request, Job}
+use Rattle.counts.specs.Counts.{sumBelow, askedBy, Slots}
 use Rattle.climb.specs.declared.Own.{Own}
 use Rattle.climb.specs.declared.Applied.{Applied}
-
--- the sum over the first n places, and over the places from a to e
-unfoldable pub sumBelow : (ℕ → ℕ) → ℕ → ℕ
-sumBelow f zero = 0
-sumBelow f (suc n) = sumBelow f n + f n
-
-unfoldable pub sumFrom : (ℕ → ℕ) → ℕ → ℕ → ℕ
-sumFrom f a e = sumBelow (λ j. f (a + j)) (e - a)
-
--- "(t/T rounded up) times" a cost, or with one job carried in "(t/T rounded up, plus 1) times" it, for the task in place i
-unfoldable pub released : ℕ → ℕ → List ℕ → List ℕ → ℕ → ℕ
-released carried t periods costs i = (t /↑ getD periods i 0 + carried) * getD costs i 0
-
-abbrev pub askedBy : ℕ → ℕ → ℕ → ℕ → List ℕ → List ℕ → ℕ
-askedBy carried t a e periods costs = sumFrom (released carried t periods costs) a e
-
--- a count, which is small
-pub record Counted (t period r : ℕ) : Type 0 where
-  pub is : r ≡ t /↑ period
-  pub high : r ≤ 10000
-
--- no inverse is too large
-pub record Small (invs : List ℕ) : Type 0 where
-  pub each : (i : ℕ) → getD invs i 0 ≤ 2882303762
-
--- in places a to e, at most 32, stand periods of accepted tasks, and costs up to a highest
-pub record Slots (highest a e : ℕ) (periods costs : List ℕ) : Type 0 where
-  pub rises : a ≤ e
-  pub few : e ≤ 32
-  pub period : (i : ℕ) → a ≤ i → i < e → Within (10 ^ 8) (10 ^ 12) (getD periods i 0)
-  pub cost : (i : ℕ) → a ≤ i → i < e → getD costs i 0 ≤ highest
 
 -- "A(q, t)" at so much a request
 pub record Charged (a e : ℕ) (periods asks : List ℕ) (weight t r : ℕ) : Type 0 where

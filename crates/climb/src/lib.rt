@@ -1,9 +1,9 @@
 // F without overflow and its rounds, of plain terms: the tasks of all cores, core after core.
 ghost use mathlib.Core.Path.{_≡_};
 ghost use Prim.Native.Nat.{_*_, _^_, _≤_, min};
-ghost use Rattle.laws.specs.Idioms.{Within};
 ghost use Rattle.rules.specs.Tasks as Tasks;
-ghost use Rattle.climb.specs.Terms.{Counted, Small, Slots, Charged, Groups, Delayed, Fair, termsOf, applied, askedBy};
+ghost use Rattle.counts.specs.Counts.{Small, Slots};
+ghost use Rattle.climb.specs.Terms.{Charged, Groups, Delayed, Fair, termsOf, applied};
 ghost use Rattle.climb.specs.Run.{Ready, lowestOf, climbed, endedAs};
 use rules::Answer;
 use rules::Delay;
@@ -16,54 +16,6 @@ pub fn latest(task: Task) -> u64
     ensures { λ r. ⌜ r ≡ Tasks.latest task ⌝ }
 {
     task.deadline.0
-}
-
-// "t/T rounded up"
-fn divided(t: u64, period: u64) -> u64
-    requires { ⌜ (t ≤ 10 ^ 12) × Within (10 ^ 8) (10 ^ 12) period ⌝ }
-    ensures { λ r. ⌜ Counted t period r ⌝ }
-{
-    (t + (period - 1)) / period
-}
-
-// About 2^58 divided by a period. What counts with it tests what it gives, so this is free to be anything that is not too large.
-fn inverse(period: u64) -> u64
-    ensures { λ r. ⌜ r ≤ 2882303762 ⌝ }
-{
-    if period < 100000000 {
-        return 0;
-    }
-    288230376151711744 / period
-}
-
-// That of the first n periods.
-pub fn inverses(n: usize, periods: &[u64; 33]) -> [u64; 33]
-    requires { ⌜ n ≤ 33 ⌝ }
-    ensures { λ r. ⌜ Small r ⌝ }
-{
-    let mut out = [0u64; 33];
-    let mut i: usize = 0;
-    while i < n {
-        out[i] = inverse(periods[i]);
-        i += 1;
-    }
-    out
-}
-
-// "t/T rounded up", guessed by a multiplication and tested; divided where the guess is wrong.
-fn up(t: u64, period: u64, inv: u64) -> u64
-    requires { ⌜ (t ≤ 10 ^ 12) × Within (10 ^ 8) (10 ^ 12) period ⌝ }
-    requires { ⌜ inv ≤ 2882303762 ⌝ }
-    ensures { λ r. ⌜ Counted t period r ⌝ }
-{
-    let guess = ((t >> 8) * inv) >> 50;
-    let below = guess * period;
-    if below < t {
-        if t - below <= period {
-            return guess + 1;
-        }
-    }
-    divided(t, period)
 }
 
 // The product, or the largest u64 where it is larger than that.
@@ -80,31 +32,8 @@ fn capped(a: u64, b: u64) -> u64
     }
 }
 
-// What the tasks in places a to e ask for in t, of what each job costs, and each with so many jobs carried in.
-fn asked(
-    a: usize,
-    e: usize,
-    periods: &[u64; 33],
-    invs: &[u64; 33],
-    costs: &[u64; 33],
-    carried: u64,
-    t: u64,
-) -> u64
-    requires { ⌜ (t ≤ 10 ^ 12) × (carried ≤ 1) × Small (now invs) ⌝ }
-    requires { ⌜ Slots (10 ^ 12) a e (now periods) (now costs) ⌝ }
-    ensures { λ r. ⌜ r ≡ askedBy carried t a e (now (periods .entry)) (now (costs .entry)) ⌝ }
-{
-    let mut sum: u64 = 0;
-    let mut i = a;
-    while i < e {
-        sum += (up(t, periods[i], invs[i]) + carried) * costs[i];
-        i += 1;
-    }
-    sum
-}
-
-// What those of a core cost, each with the job that it carries in, at so much a request. Of a core whose requests cost nothing, as the own
-// core's, nothing is counted.
+// What the tasks of a core, those in places a to e, cost, each with the job that it carries in, at so much a request. Of a core whose requests
+// cost nothing, as the own core's, nothing is counted.
 fn charged(
     a: usize,
     e: usize,
@@ -121,7 +50,7 @@ fn charged(
     if weight == 0 {
         return 0;
     }
-    asked(a, e, periods, invs, asks, 1, t) * weight
+    counts::asked(a, e, periods, invs, asks, t) * weight
 }
 
 // The judged task's own figures: C, H and the latest allowed response; RD of its core, and the weight there of one request of each core; how
@@ -186,8 +115,9 @@ fn apply(
     requires { ⌜ Fair (termsOf own (now from) (now periods) (now execs) (now asks)) ⌝ }
     ensures { λ r. ⌜ r ≡ applied (termsOf own (now (from .entry)) (now (periods .entry)) (now (execs .entry)) (now (asks .entry))) t ⌝ }
 {
-    let exec = own.exec + asked(own.first, own.place, periods, invs, execs, 0, t);
-    let requests = own.requests + asked(own.first, own.place, periods, invs, asks, 0, t);
+    let higher = counts::asked_higher(own.first, own.place, periods, invs, execs, asks, t);
+    let exec = own.exec + higher.execs;
+    let requests = own.requests + higher.requests;
     let delay = own.delay;
     let request = capped(delay, requests);
     let job = job(own, from, periods, invs, asks, t);

@@ -9,8 +9,8 @@ use Rattle.rules.specs.declared.Task.{Task}
 use Rattle.laws.specs.Idioms.{_/↑_, sumOver}
 use Rattle.rules.specs.Tasks.{T, noTask}
 use Rattle.rules.specs.Sound.{SoundTask}
-use Rattle.climb.specs.Terms.{sumBelow, sumFrom, released, askedBy, Slots}
-use Rattle.climb.proofs.Sums.{below-same}
+use Rattle.counts.specs.Counts.{sumBelow, sumFrom, released, askedBy, Slots}
+use Rattle.counts.proofs.Sums.{below-same}
 
 -- from place a on stands the figure f of some tasks
 pub record From (f : Task → ℕ) (l : List Task) (a : ℕ) (xs : List ℕ) : Type 0 where

@@ -25,9 +25,10 @@ use Rattle.laws.proofs.Sums.{sum-append, upTo-next}
 use Rattle.laws.proofs.Members.{member-those}
 use Rattle.laws.proofs.Places.{place-of}
 use Rattle.board.proofs.Bounds.{price-bounded}
-use Rattle.climb.specs.Terms.{Terms, termsOf, sumBelow, chargeOf, aboveOf, requestOf, jobOf, timeOf, byOf, Group, Fair}
+use Rattle.counts.specs.Counts.{sumBelow}
+use Rattle.counts.proofs.Sums.{below-next, below-same}
+use Rattle.climb.specs.Terms.{Terms, termsOf, chargeOf, aboveOf, requestOf, jobOf, timeOf, byOf, Group, Fair}
 use Rattle.climb.specs.Run.{lowestOf, Ready, answerOf, isHigh, climbed}
-use Rattle.climb.proofs.Sums.{below-next, below-same}
 use Rattle.rounds.specs.Lent.{ownWith}
 use Rattle.columns.specs.Numbered.{climbedFor}
 use Rattle.columns.proofs.FromPlace.{From, asked-is, slots-are}

@@ -110,7 +110,7 @@ pub fn judge_task(table: Table, k: u8, start: u64) -> Climbed
     let mut costs = [0u64; 33];
     let mut asks = [0u64; 33];
     let board = laid(table, &mut core, &mut latest, &mut from, &mut spans, &mut costs, &mut asks);
-    let invs = climb::inverses(board.tasks, &spans);
+    let invs = counts::inverses(board.tasks, &spans);
     let i = (k as usize) - 1;
     let p = (core[i] as usize) - 1;
     let first = from[p];

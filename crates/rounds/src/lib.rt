@@ -97,7 +97,7 @@ fn judge_each(
 {
     let miss = missed();
     let mut answers = [miss; 32];
-    let invs = climb::inverses(board.tasks, spans);
+    let invs = counts::inverses(board.tasks, spans);
     let mut next = *from;
     let mut i: usize = 0;
     while i < board.tasks {

@@ -1,12 +1,12 @@
--- A count of releases is small, and a product is tested by a division. Assumes nothing.
+-- A count of periods is small, a guess of it is tested, and no inverse is too large. Assumes nothing.
 use mathlib.Core.Path.{_≡_}
 use mathlib.Core.List.{List, [], _∷_}
-use Prim.Native.Nat.{ℕ, zero, suc, _+_, _-_, _*_, _/_, _^_, _≤_, _<_, zero-le}
+use Prim.Native.Nat.{ℕ, zero, suc, _+_, _-_, _*_, _/_, _%_, _^_, _≤_, _<_, zero-le}
 use native.Mathlib.Nat.{le-div-iff-mul-le, div-lt-iff-lt-mul, mul-le-mul}
 use native.Mathlib.Omega.{arith}
 use lib.ListN.{getD, set, replicate}
 use Rattle.laws.specs.Idioms.{_/↑_}
-use Rattle.climb.specs.Terms.{Small}
+use Rattle.counts.specs.Counts.{Small}
 
 -- a/b rounded up is at most m where a is at most m times b
 pub up-high : (a b m : ℕ) → 0 < b → a ≤ m * b → a /↑ b ≤ m
@@ -14,17 +14,13 @@ up-high a b m h g =
     let q : (a + (b - 1)) / b < m + 1 = div-lt-iff-lt-mul {k = b} {x = a + (b - 1)} {y = m + 1} h .1 (omega arith) in
     omega arith
 
-pub under : (a b top : ℕ) → 0 < b → a ≤ top / b → a * b ≤ top
-under a b top h = le-div-iff-mul-le h .0
-
-pub over : (a b top : ℕ) → 0 < b → top / b < a → top < a * b
-over a b top h = div-lt-iff-lt-mul h .0
-
--- a guess g that passes the test is one less than the count
-pub guessed : (t b g : ℕ) → 1 ≤ b → g * b < t → t - g * b ≤ b → g + 1 ≡ t /↑ b
-guessed t b g h above near =
-    let low : g + 1 ≤ (t + (b - 1)) / b = le-div-iff-mul-le {k = b} {x = g + 1} {y = t + (b - 1)} h .1 (omega arith) in
-    let high : (t + (b - 1)) / b < g + 2 = div-lt-iff-lt-mul {k = b} {x = t + (b - 1)} {y = g + 2} h .1 (omega arith) in
+-- a guess g that passes the test, of differences that wrap, is one less than the count
+pub guessed : (g : ℕ) {t b last over : ℕ} → (last + 1) % 2 ^ 64 ≡ t → (over + g * b) % 2 ^ 64 ≡ last → g * b ≤ 10000 * 10 ^ 12 → b ≤ 10 ^ 12 → over < b
+    → g + 1 ≡ t /↑ b
+guessed g {t} {b} {last} {over} one less small high near =
+    let is : t ≡ g * b + over + 1 = omega arith in
+    let low : g + 1 ≤ (t + (b - 1)) / b = le-div-iff-mul-le {k = b} {x = g + 1} {y = t + (b - 1)} (omega arith) .1 (omega arith) in
+    let top : (t + (b - 1)) / b < g + 2 = div-lt-iff-lt-mul {k = b} {x = t + (b - 1)} {y = g + 2} (omega arith) .1 (omega arith) in
     omega arith
 
 -- the guess is small
