@@ -1,11 +1,11 @@
 -- Two lists compared, place by place. Assumes nothing.
 use borrow.Author.Needs.{needs}
 use Prim.Native.Nat.{_≤_, _-_}
-use Rattle.judge.specs.Same.{alikeTo}
+use Rattle.order.specs.Same.{alikeTo}
 use Rattle.laws.proofs.Every.{Rest, rest-all, rest-fails, rest-next, rest-passes, rest-done}
-use Rattle.judge.proofs.Compared.{equals, equal-here, unequal-here, equal-beyond}
-use Rattle.judge.proofs.alike.Statement.{statement}
-use Rattle.judge.proofs.alike.Tie as tie
+use Rattle.order.proofs.Compared.{equals, equal-here, unequal-here, equal-beyond}
+use Rattle.order.proofs.alike.Statement.{statement}
+use Rattle.order.proofs.alike.Tie as tie
 
 abbrev Inv-loop : tie.InvT-loop
 Inv-loop n a b i₀ i = (i ≤ n) × Rest (equals a b) n i

@@ -11,7 +11,7 @@ use Rattle.rules.specs.declared.Table.{Table}
 use Rattle.laws.specs.Idioms.{entry}
 use Rattle.rules.specs.Tasks.{noTask, taskOf}
 use Rattle.rules.specs.Order.{sameBoard, worseTask}
-use Rattle.judge.specs.Same.{alikeTo}
+use Rattle.order.specs.Same.{alikeTo}
 
 -- ---- two lists, place by place
 

@@ -2,9 +2,9 @@
 use borrow.Author.Needs.{needs}
 use borrow.Author.Tests.{not-true, not-false}
 use Rattle.rules.specs.Order as Order
-use Rattle.judge.specs.Same.{allWorse}
-use Rattle.judge.proofs.worsens.Statement.{statement}
-use Rattle.judge.proofs.worsens.Tie as tie
+use Rattle.order.specs.Same.{allWorse}
+use Rattle.order.proofs.worsens.Statement.{statement}
+use Rattle.order.proofs.worsens.Tie as tie
 
 returns : tie.Need-returns
 unfolding Order.worsens

@@ -5,12 +5,12 @@ use mathlib.Core.Path.{_≡_, sym, _∙_}
 use Prim.Native.Nat.{_≤_, _-_}
 use native.Mathlib.Omega.{arith}
 use lib.ListN.{length}
-use Rattle.judge.specs.Same.{allWorse}
+use Rattle.order.specs.Same.{allWorse}
 use Rattle.laws.proofs.Every.{Rest, rest-all, rest-fails, rest-next, rest-passes, rest-done}
 use Rattle.laws.proofs.Runs.{unmapped}
-use Rattle.judge.proofs.Compared.{worse, worse-here, worse-beyond}
-use Rattle.judge.proofs.worse_tasks.Statement.{statement}
-use Rattle.judge.proofs.worse_tasks.Tie as tie
+use Rattle.order.proofs.Compared.{worse, worse-here, worse-beyond}
+use Rattle.order.proofs.worse_tasks.Statement.{statement}
+use Rattle.order.proofs.worse_tasks.Tie as tie
 
 abbrev Inv-loop : tie.InvT-loop
 Inv-loop older newer n i₀ i = (i ≤ n) × Rest (worse older newer) (older .tasks) i

@@ -5,11 +5,11 @@ use mathlib.Core.Path.{_≡_, sym, _∙_}
 use mathlib.Core.Bool.{_&&_}
 use lib.ListN.{length}
 use Rattle.rules.specs.Order.{sameBoard}
-use Rattle.judge.specs.Same.{alikeTo}
+use Rattle.order.specs.Same.{alikeTo}
 use Rattle.laws.proofs.Runs.{unmapped}
-use Rattle.judge.proofs.Compared.{same-counts}
-use Rattle.judge.proofs.same_board.Statement.{statement}
-use Rattle.judge.proofs.same_board.Tie as tie
+use Rattle.order.proofs.Compared.{same-counts}
+use Rattle.order.proofs.same_board.Statement.{statement}
+use Rattle.order.proofs.same_board.Tie as tie
 
 row-long : (c : tie.Start) → length (c .args .a .timing) ≡ 15
 row-long c = search (needs, unmapped)

@@ -1,8 +1,8 @@
 -- A task worsened: the five tests. Assumes nothing.
 use borrow.Author.Tests.{eq-eqb, ne-eqb, le-leb, lt-leb}
 use Rattle.rules.specs.Order.{worseTask}
-use Rattle.judge.proofs.worse_task.Statement.{statement}
-use Rattle.judge.proofs.worse_task.Tie as tie
+use Rattle.order.proofs.worse_task.Statement.{statement}
+use Rattle.order.proofs.worse_task.Tie as tie
 
 returns : tie.Need-returns
 unfolding worseTask
