@@ -5,8 +5,8 @@ use borrow.Author.Needs.{needs}
 use native.Mathlib.Omega.{arith}
 use Rattle.rules.specs.Refusals.{relationFault}
 use Rattle.rules.proofs.First.{Left, left-all, left-hit, left-next, left-none}
-use Rattle.checks.proofs.check_relations.Statement.{statement}
-use Rattle.checks.proofs.check_relations.Tie as tie
+use Rattle.timing.proofs.check_relations.Statement.{statement}
+use Rattle.timing.proofs.check_relations.Tie as tie
 
 abbrev Inv-loop : tie.InvT-loop
 Inv-loop row i₀ i = Left 7 (relationFault row) 5 i

@@ -1,9 +1,9 @@
 -- The comparisons are the relations, in their order. Assumes nothing.
 use native.Mathlib.Omega.{arith}
 use borrow.Author.Needs.{needs}
-use Rattle.checks.proofs.Relations.{relation-1, relation-2, relation-3, relation-4, relation-5, fifth}
-use Rattle.checks.proofs.relation_fault.Statement.{statement}
-use Rattle.checks.proofs.relation_fault.Tie as tie
+use Rattle.timing.proofs.Relations.{relation-1, relation-2, relation-3, relation-4, relation-5, fifth}
+use Rattle.timing.proofs.relation_fault.Statement.{statement}
+use Rattle.timing.proofs.relation_fault.Tie as tie
 
 returns : tie.Need-returns
 returns c = rw (c .before .before .if1 .taken, c .figure2 .ensures .0, c .before .figure .ensures .0) (relation-1 _)

@@ -5,9 +5,9 @@ use borrow.Author.Needs.{needs}
 use Rattle.rules.specs.Timing.{ranges}
 use Rattle.rules.specs.Refusals.{figureFault}
 use Rattle.rules.proofs.First.{Left, left-all, left-hit, left-next, left-none}
-use Rattle.checks.proofs.Ranges.{AreRanges, fault-at}
-use Rattle.checks.proofs.check_ranges.Statement.{statement}
-use Rattle.checks.proofs.check_ranges.Tie as tie
+use Rattle.timing.proofs.Ranges.{AreRanges, fault-at}
+use Rattle.timing.proofs.check_ranges.Statement.{statement}
+use Rattle.timing.proofs.check_ranges.Tie as tie
 
 abbrev Inv-loop : tie.InvT-loop
 Inv-loop row table i₀ i = Left 6 (figureFault row) 15 i × AreRanges table

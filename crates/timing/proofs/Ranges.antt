@@ -9,8 +9,8 @@ use lib.ListN.{getD, List·getD-map}
 use borrow.Author.Tests.{eqb-true}
 use Rattle.rules.specs.Timing.{Row, BL, ranges}
 use Rattle.rules.specs.Refusals.{figureFault}
-use Rattle.checks.specs.declared.Limits.{Limits}
-use Rattle.checks.specs.Ranges.{notBurst, outOfRange}
+use Rattle.timing.specs.declared.Limits.{Limits}
+use Rattle.timing.specs.Ranges.{notBurst, outOfRange}
 
 abbrev pair : Limits → ℕ × ℕ
 pair l = (l .0, l .1)

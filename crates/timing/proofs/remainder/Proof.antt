@@ -1,8 +1,8 @@
 -- The remainder by 0 is the number itself. Assumes nothing.
 use native.Mathlib.Nat.{mod-zero}
 use borrow.Author.Needs.{needs}
-use Rattle.checks.proofs.remainder.Statement.{statement}
-use Rattle.checks.proofs.remainder.Tie as tie
+use Rattle.timing.proofs.remainder.Statement.{statement}
+use Rattle.timing.proofs.remainder.Tie as tie
 
 returns : tie.Need-returns
 returns c = rw (c .if1 .taken, mod-zero)

@@ -2,8 +2,8 @@
 use borrow.Author.Needs.{needs}
 use Rattle.rules.specs.Refusals.{checkTiming}
 use Rattle.rules.proofs.Chain.{stops, goes-on}
-use Rattle.checks.proofs.check_timing.Statement.{statement}
-use Rattle.checks.proofs.check_timing.Tie as tie
+use Rattle.timing.proofs.check.Statement.{statement}
+use Rattle.timing.proofs.check.Tie as tie
 
 returns : tie.Need-returns
 unfolding checkTiming
@@ -13,5 +13,5 @@ returns-2 : tie.Need-returns-2
 unfolding checkTiming
 returns-2 c = goes-on _ _ (c .before .before .before .check-ranges .ensures) (c .before .if1 .left) (c .check-relations .ensures)
 
-pub check-timing-spec : {M : Type 1} → statement M
-check-timing-spec = tie.close (tie.spec (λ c κs. search needs) returns (λ c κs. search needs) returns-2)
+pub check-spec : {M : Type 1} → statement M
+check-spec = tie.close (tie.spec (λ c κs. search needs) returns (λ c κs. search needs) returns-2)
