@@ -4,7 +4,7 @@ use mathlib.Core.List.{List}
 use Prim.Native.Nat.{ℕ}
 use Rattle.text.specs.Put.{Given}
 use Rattle.capi.proofs.Promises.{judged-once}
-use Rattle.claims.specs.Exact.{Exact, Promises}
+use Rattle.exact.specs.Exact.{Exact, Promises}
 
 -- what equals a rule is one
 only-one : {A : Type 0} (rule : A) → Exact (λ a. a ≡ rule)
@@ -32,10 +32,10 @@ promises = record {
   check-board = λ t. only-one _;
   check-tasks = λ t. only-one _;
   check = λ t. only-one _;
+  worsens = λ older newer. only-one _;
   judge-one = λ t k start. only-one _;
   judge-all = λ t starts. only-one _;
   judge-carried = λ older newer a b p q. p .is ∙ sym (q .is);
-  worsens = λ older newer. only-one _;
   list = λ s out. given _ out;
   lines = λ t answers out. given _ out;
   ryb-read = λ s. only-one _;

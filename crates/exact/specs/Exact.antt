@@ -40,11 +40,12 @@ pub record Promises : Type 0 where
   pub check-board : (t : Table) → Exact (λ (r : Refusal). r ≡ checkBoard t)
   pub check-tasks : (t : Table) → Exact (λ (r : Refusal). r ≡ checkTasks t)
   pub check : (t : Table) → Exact (λ (r : Refusal). r ≡ checkTable t)
+  -- order
+  pub worsens : (older newer : Table) → Exact (λ (r : Bool). r ≡ Order.worsens older newer)
   -- judge
   pub judge-one : (t : Table) (k start : ℕ) → Exact (λ (r : Judged). r ≡ judgeOne t k start)
   pub judge-all : (t : Table) (starts : List ℕ) → Exact (λ (r : AllJudged). r ≡ judgeAll t starts)
   pub judge-carried : (older newer : Table) → Exact (λ (r : Rejudged). Carried older newer r)
-  pub worsens : (older newer : Table) → Exact (λ (r : Bool). r ≡ Order.worsens older newer)
   -- listing
   pub list : (s out : List ℕ) → Exact (λ (r : ℕ × List ℕ). Given (listing s) out (r .0) (r .1))
   pub lines : (t : Table) (answers : List Answer) (out : List ℕ) → Exact (λ (r : ℕ × List ℕ). Given (tableText t answers) out (r .0) (r .1))
