@@ -1,9 +1,9 @@
 -- `put_row` meets its contract: three texts one after the other. Assumes nothing.
 use borrow.Author.Needs.{needs}
 use Rattle.text.proofs.Put.{_then_}
-use Rattle.listing.proofs.TaskLines.{task-line}
-use Rattle.listing.proofs.rows.put_row.Statement.{statement}
-use Rattle.listing.proofs.rows.put_row.Tie as tie
+use Rattle.rows.proofs.TaskLines.{task-line}
+use Rattle.rows.proofs.put_row.Statement.{statement}
+use Rattle.rows.proofs.put_row.Tie as tie
 
 returns : tie.Need-returns
 returns c =

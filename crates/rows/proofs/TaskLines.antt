@@ -1,21 +1,20 @@
--- A task's line, the lines of the first tasks and those of a table, as code puts them together. Assumes nothing.
+-- A task's line, and the lines of the first tasks, as code puts them together. Assumes nothing.
 use mathlib.Core.Path.{_≡_, refl, ap}
 use mathlib.Core.List.{List, [], _∷_, _++_, map, append-assoc, append-nil}
-use Prim.Native.Nat.{ℕ, _+_, _≤_, _<_}
+use Prim.Native.Nat.{ℕ, _+_}
 use native.Mathlib.Nat.{add-sub-cancel}
 use lib.ListN.{getD}
-use borrow.Author.Tests.{le-leb, lt-leb}
 use Rattle.rules.specs.declared.Table.{Table}
 use Rattle.rules.specs.declared.Answer.{Answer}
 use Rattle.rules.specs.declared.Verdict.{Verdict}
 use Rattle.rules.specs.declared.Verdict.the-variants.{Holds, Misses}
 use Rattle.rules.specs.Judgement.{misses}
 use Rattle.rules.specs.Tasks.{noTask}
-use Rattle.rules.specs.Listing.{line, verdictWords, taskLine, tableLines}
+use Rattle.rules.specs.Listing.{line, verdictWords, taskLine}
 use Rattle.laws.specs.Idioms.{text, from, upTo, joined}
 use Rattle.laws.specs.Decimal.{decimal}
 use Rattle.laws.proofs.Sums.{upTo-next}
-use Rattle.listing.specs.Lines.{rows, last, tableText}
+use Rattle.rows.specs.Rows.{rows}
 
 -- the end of a task's line: verdict, bound, deciding delay and rounds
 abbrev tail : Verdict → ℕ → List ℕ
@@ -45,15 +44,3 @@ module _ (t : Table) (answers : List Answer) where
   rows-next i =
       rw (upTo-next i, joined-snoc _ (upTo i) (i + 1))
       (ap (λ (p : ℕ). rows t answers i ++ taskLine (i + 1) (getD (t .task) p noTask .core) (getD answers p (misses 0))) (add-sub-cancel i 1))
-
-  pub table-lines : tableLines t answers ≡ text "task core verdict bound by rounds\n" ++ rows t answers (t .tasks) ++ last answers (t .tasks)
-  unfolding tableLines rows last
-  table-lines = refl
-
-  pub text-none : 32 < t .tasks → tableText t answers ≡ []
-  unfolding tableText
-  text-none h = rw (lt-leb (t .tasks) 32 h)
-
-  pub text-whole : t .tasks ≤ 32 → tableText t answers ≡ tableLines t answers
-  unfolding tableText
-  text-whole h = rw (le-leb (t .tasks) 32 h)

@@ -4,12 +4,12 @@ use Prim.Native.Nat.{_+_, _-_, _*_, _≤_}
 use native.Mathlib.Omega.{arith}
 use borrow.Author.Needs.{needs}
 use lib.ListN.{length}
-use Rattle.listing.specs.Lines.{rows}
+use Rattle.rows.specs.Rows.{rows}
 use Rattle.text.specs.Put.{Put}
 use Rattle.text.proofs.Put.{nothing, _then_}
-use Rattle.listing.proofs.TaskLines.{rows-none, rows-next}
-use Rattle.listing.proofs.rows.put_rows.Statement.{statement}
-use Rattle.listing.proofs.rows.put_rows.Tie as tie
+use Rattle.rows.proofs.TaskLines.{rows-none, rows-next}
+use Rattle.rows.proofs.put_rows.Statement.{statement}
+use Rattle.rows.proofs.put_rows.Tie as tie
 
 abbrev Inv-loop : tie.InvT-loop
 Inv-loop buf₀ at t answers n end₀ i₀ buf end i = (i ≤ n) × (length buf ≡ length buf₀) × (end ≤ at + 100 * i) × Put buf₀ at (rows t answers i) end buf
