@@ -157,7 +157,7 @@ fn say_judged(t: Table, again: Rejudged, fresh: u64) {
 fn judge_again(older: Table, newer: Table) {
     say_judged(
         newer,
-        judge::judge_carried(older, newer),
+        rejudge::judge_carried(older, newer),
         fresh_rounds(newer),
     );
 }

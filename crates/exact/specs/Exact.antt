@@ -16,7 +16,7 @@ use Rattle.rules.specs.Refusals.{checkBoard, checkTasks, checkTable}
 use Rattle.rules.specs.File.{checkWhole}
 use Rattle.rules.specs.Operations.{checkFile, reading, checkView, viewing, judgeOne, judgeAll}
 use Rattle.rules.specs.Listing.{listing}
-use Rattle.judge.specs.Carried.{Carried}
+use Rattle.rejudge.specs.Carried.{Carried}
 use Rattle.writer.specs.Answers.{Wrote}
 use Rattle.text.specs.Put.{Given}
 use Rattle.listing.specs.Lines.{tableText}
@@ -45,6 +45,7 @@ pub record Promises : Type 0 where
   -- judge
   pub judge-one : (t : Table) (k start : ℕ) → Exact (λ (r : Judged). r ≡ judgeOne t k start)
   pub judge-all : (t : Table) (starts : List ℕ) → Exact (λ (r : AllJudged). r ≡ judgeAll t starts)
+  -- rejudge
   pub judge-carried : (older newer : Table) → Exact (λ (r : Rejudged). Carried older newer r)
   -- listing
   pub list : (s out : List ℕ) → Exact (λ (r : ℕ × List ℕ). Given (listing s) out (r .0) (r .1))

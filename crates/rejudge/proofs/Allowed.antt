@@ -23,7 +23,7 @@ use Rattle.laws.proofs.Runs.{length-map-from}
 use Rattle.laws.proofs.Filled.{filled-length}
 use Rattle.laws.proofs.Places.{place-of}
 use Rattle.rounds.specs.Numbered.{firstLate, firstHigh, judgedTasks}
-use Rattle.judge.specs.Carried.{startOf, olderStarts, AllAllowed}
+use Rattle.rejudge.specs.Carried.{startOf, olderStarts, AllAllowed}
 
 -- ---- where none is refused, all are answered
 

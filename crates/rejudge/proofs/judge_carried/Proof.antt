@@ -10,11 +10,12 @@ use Rattle.rules.specs.Refusals.{checkJudged}
 use Rattle.rules.specs.Operations.{answersFrom, fresh}
 use Rattle.rules.proofs.Starts.{judged-accepted}
 use Rattle.rules.proofs.LentStarts.{answers-same}
-use Rattle.judge.specs.Carried.{notRejudged}
-use Rattle.judge.proofs.Links.{passes, refuses, carried-promise, again-older, again-newer, again-carried, again-fresh}
-use Rattle.judge.proofs.Allowed.{all-fresh, all-carried, carried-answers, fresh-starts}
-use Rattle.judge.proofs.judge_carried.Statement.{statement}
-use Rattle.judge.proofs.judge_carried.Tie as tie
+use Rattle.rejudge.specs.Carried.{notRejudged}
+use Rattle.judge.proofs.Links.{passes, refuses}
+use Rattle.rejudge.proofs.Again.{carried-promise, again-older, again-newer, again-carried, again-fresh}
+use Rattle.rejudge.proofs.Allowed.{all-fresh, all-carried, carried-answers, fresh-starts}
+use Rattle.rejudge.proofs.judge_carried.Statement.{statement}
+use Rattle.rejudge.proofs.judge_carried.Tie as tie
 
 -- past the older table's refusals, and past the newer's
 older-passes : (c : tie.Else1) → isAccepted (checkJudged (c .before .before .before .args .older)) ≡ true

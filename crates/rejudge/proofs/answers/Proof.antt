@@ -2,9 +2,9 @@
 use mathlib.Core.Path.{_∙_, ap}
 use Rattle.rules.specs.declared.AllJudged.{AllJudged}
 use Rattle.rules.proofs.Accepted.{sound}
-use Rattle.judge.proofs.Allowed.{allowed-late, allowed-answers}
-use Rattle.judge.proofs.answers.Statement.{statement}
-use Rattle.judge.proofs.answers.Tie as tie
+use Rattle.rejudge.proofs.Allowed.{allowed-late, allowed-answers}
+use Rattle.rejudge.proofs.answers.Statement.{statement}
+use Rattle.rejudge.proofs.answers.Tie as tie
 
 judge-tasks-requires : tie.Need-judge-tasks-requires
 judge-tasks-requires c κs =

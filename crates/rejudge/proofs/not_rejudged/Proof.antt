@@ -4,9 +4,9 @@ use mathlib.Core.Path.{ap}
 use mathlib.Core.Bool.{false}
 use Rattle.rules.specs.declared.AllJudged.{AllJudged}
 use Rattle.rounds.specs.Numbered.{noneJudged}
-use Rattle.judge.specs.Carried.{notRejudged}
-use Rattle.judge.proofs.not_rejudged.Statement.{statement}
-use Rattle.judge.proofs.not_rejudged.Tie as tie
+use Rattle.rejudge.specs.Carried.{notRejudged}
+use Rattle.rejudge.proofs.not_rejudged.Statement.{statement}
+use Rattle.rejudge.proofs.not_rejudged.Tie as tie
 
 returns : tie.Need-returns
 unfolding notRejudged noneJudged

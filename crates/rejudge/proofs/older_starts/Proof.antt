@@ -7,12 +7,12 @@ use lib.ListN.{length}
 use lib.Seq.{take-all}
 use Rattle.rules.specs.Judgement.{misses}
 use Rattle.rules.specs.Operations.{answersFrom, fresh}
-use Rattle.judge.proofs.Column.{Column, column-none, column-next}
-use Rattle.judge.specs.Carried.{startOf, olderStarts}
-use Rattle.judge.proofs.Allowed.{all-fresh, answers-long, fresh-starts}
+use Rattle.rejudge.proofs.Column.{Column, column-none, column-next}
+use Rattle.rejudge.specs.Carried.{startOf, olderStarts}
+use Rattle.rejudge.proofs.Allowed.{all-fresh, answers-long, fresh-starts}
 use Rattle.rules.proofs.LentStarts.{answers-same}
-use Rattle.judge.proofs.older_starts.Statement.{statement}
-use Rattle.judge.proofs.older_starts.Tie as tie
+use Rattle.rejudge.proofs.older_starts.Statement.{statement}
+use Rattle.rejudge.proofs.older_starts.Tie as tie
 
 abbrev Inv-loop : tie.InvT-loop
 Inv-loop all starts₀ i₀ starts i = (i ≤ 32) × Column startOf all 32 i starts
