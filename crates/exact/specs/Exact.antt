@@ -36,9 +36,10 @@ pub record Promises : Type 0 where
   pub view : (s : List ℕ) (k : ℕ) → Exact (λ (part : List ℕ). part ≡ viewing s k)
   pub view-refusal : (s : List ℕ) (k : ℕ) → Exact (λ (r : Refusal). r ≡ checkView s k)
   pub write : (t : Table) (out : List ℕ) → Exact (λ (r : Written × List ℕ). Wrote t out (r .0) (r .1))
+  -- tasks
+  pub check-tasks : (t : Table) → Exact (λ (r : Refusal). r ≡ checkTasks t)
   -- checks
   pub check-board : (t : Table) → Exact (λ (r : Refusal). r ≡ checkBoard t)
-  pub check-tasks : (t : Table) → Exact (λ (r : Refusal). r ≡ checkTasks t)
   pub check : (t : Table) → Exact (λ (r : Refusal). r ≡ checkTable t)
   -- order
   pub worsens : (older newer : Table) → Exact (λ (r : Bool). r ≡ Order.worsens older newer)

@@ -8,8 +8,8 @@ use Rattle.rules.specs.declared.Task.{Task}
 use Rattle.rules.specs.Chain.{refused, first}
 use Rattle.rules.specs.Refusals.{coreFault, timeFault, requestFault, tasksRefusal}
 use Rattle.rules.proofs.First.{Left, left-all, left-hit, left-next, left-none}
-use Rattle.checks.specs.declared.Faults.{Faults}
-use Rattle.checks.specs.Faults.{earliest, noFaults, withTask, placed, toldBy}
+use Rattle.tasks.specs.declared.Faults.{Faults}
+use Rattle.tasks.specs.Faults.{earliest, noFaults, withTask, placed, toldBy}
 
 -- after i of m places: no fault yet, or the first of all
 pub data Seen (n : ℕ) (fault : ℕ → Bool) (m i : ℕ) : ℕ → Type 0 where

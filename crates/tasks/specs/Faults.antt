@@ -6,7 +6,7 @@ use Rattle.rules.specs.declared.Task.{Task}
 use Rattle.rules.specs.declared.Refusal.{Refusal}
 use Rattle.rules.specs.Chain.{_orElse_, given}
 use Rattle.rules.specs.Refusals.{coreFault, timeFault, requestFault}
-use Rattle.checks.specs.declared.Faults.{Faults}
+use Rattle.tasks.specs.declared.Faults.{Faults}
 
 -- the first place at fault: one that was seen before k, or k if it is at fault; 0 where none is
 unfoldable pub earliest : ℕ → ℕ → Bool → ℕ

@@ -1,8 +1,8 @@
 -- The first place at fault so far. Assumes nothing.
 use borrow.Author.Tests.{eq-eqb, ne-eqb}
-use Rattle.checks.specs.Faults.{earliest}
-use Rattle.checks.proofs.earlier.Statement.{statement}
-use Rattle.checks.proofs.earlier.Tie as tie
+use Rattle.tasks.specs.Faults.{earliest}
+use Rattle.tasks.proofs.earlier.Statement.{statement}
+use Rattle.tasks.proofs.earlier.Tie as tie
 
 returns : tie.Need-returns
 unfolding earliest

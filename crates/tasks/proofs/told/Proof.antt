@@ -2,9 +2,9 @@
 use mathlib.Core.Path.{_∙_}
 use borrow.Author.Needs.{needs}
 use borrow.Author.Tests.{eq-eqb, ne-eqb}
-use Rattle.checks.specs.Faults.{toldBy}
-use Rattle.checks.proofs.told.Statement.{statement}
-use Rattle.checks.proofs.told.Tie as tie
+use Rattle.tasks.specs.Faults.{toldBy}
+use Rattle.tasks.proofs.told.Statement.{statement}
+use Rattle.tasks.proofs.told.Tie as tie
 
 returns : tie.Need-returns
 unfolding toldBy

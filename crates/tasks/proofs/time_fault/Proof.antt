@@ -5,8 +5,8 @@ use borrow.Author.Tests.{not-true, not-false}
 use Rattle.laws.specs.Idioms.{within}
 use Rattle.rules.specs.Tasks.{T, D}
 use Rattle.rules.specs.Refusals.{timeFault}
-use Rattle.checks.proofs.time_fault.Statement.{statement}
-use Rattle.checks.proofs.time_fault.Tie as tie
+use Rattle.tasks.proofs.time_fault.Statement.{statement}
+use Rattle.tasks.proofs.time_fault.Tie as tie
 
 returns : tie.Need-returns
 unfolding timeFault

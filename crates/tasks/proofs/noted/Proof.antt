@@ -1,9 +1,9 @@
 -- What has been seen, and one task more. Assumes nothing.
 use borrow.Author.Needs.{needs}
 use Rattle.rules.specs.Refusals.{coreFault, requestFault}
-use Rattle.checks.specs.Faults.{withTask}
-use Rattle.checks.proofs.noted.Statement.{statement}
-use Rattle.checks.proofs.noted.Tie as tie
+use Rattle.tasks.specs.Faults.{withTask}
+use Rattle.tasks.proofs.noted.Statement.{statement}
+use Rattle.tasks.proofs.noted.Tie as tie
 
 returns : tie.Need-returns
 unfolding withTask coreFault requestFault
