@@ -97,7 +97,7 @@ fn put_trailer(out: &mut [u8], e: usize)
     requires { ⌜ e + 12 ≤ length (now out) ⌝ }
     ensures { λ _. ⌜ now (out .exit) ≡ sets (now (out .entry)) e (trailer (take e (now (out .entry)))) ⌝ }
 {
-    let total = bytes::sums(&out[..e]);
+    let total = sums::sums(&out[..e]);
     bytes::put(out, e, e as u64, 4);
     bytes::put(out, e + 4, total.sum, 4);
     bytes::put(out, e + 8, total.running, 4);

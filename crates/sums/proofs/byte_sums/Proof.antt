@@ -6,9 +6,9 @@ use borrow.Author.Needs.{needs}
 use lib.ListN.{length, take}
 use lib.Seq.{take-length}
 use Rattle.rules.specs.File.{sumOf, runningSum}
-use Rattle.bytes.proofs.Running.{sum-next, running-next}
-use Rattle.bytes.proofs.byte_sums.Statement.{statement}
-use Rattle.bytes.proofs.byte_sums.Tie as tie
+use Rattle.sums.proofs.Running.{sum-next, running-next}
+use Rattle.sums.proofs.byte_sums.Statement.{statement}
+use Rattle.sums.proofs.byte_sums.Tie as tie
 
 abbrev Inv-loop : tie.InvT-loop
 Inv-loop s sum₀ running₀ at₀ sum running at =

@@ -7,11 +7,11 @@ use native.Mathlib.Nat.{add-sub-cancel-left}
 use lib.ListN.{length, getD, take}
 use lib.Seq.{take-length}
 use Rattle.rules.specs.File.{runningSum}
-use Rattle.bytes.specs.Sums.{sumsOf}
+use Rattle.sums.specs.Sums.{sumsOf}
 use Rattle.laws.proofs.Parts.{part-length}
-use Rattle.bytes.proofs.Running.{part-joined, part-fits}
-use Rattle.bytes.proofs.sums.Statement.{statement}
-use Rattle.bytes.proofs.sums.Tie as tie
+use Rattle.sums.proofs.Running.{part-joined, part-fits}
+use Rattle.sums.proofs.sums.Statement.{statement}
+use Rattle.sums.proofs.sums.Tie as tie
 
 abbrev Inv-loop : tie.InvT-loop
 Inv-loop s t₀ at₀ t at = (at ≤ length s) × (t ≡ sumsOf (take at s))
