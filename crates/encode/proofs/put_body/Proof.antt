@@ -5,9 +5,9 @@ use native.Mathlib.Omega.{arith}
 use borrow.Author.Needs.{needs}
 use lib.ListN.{length}
 use Rattle.whole.proofs.Places.{sets-limit, after-sets}
-use Rattle.writer.proofs.Stores.{body-stores}
-use Rattle.writer.proofs.put_body.Statement.{statement}
-use Rattle.writer.proofs.put_body.Tie as tie
+use Rattle.encode.proofs.Stores.{body-stores}
+use Rattle.encode.proofs.put_body.Statement.{statement}
+use Rattle.encode.proofs.put_body.Tie as tie
 
 arrays : (c : tie.Start) → (length (c .args .t .timing) ≡ 15) × (length (c .args .t .sets) ≡ 8)
 arrays c = (search needs, search needs)

@@ -13,7 +13,7 @@ use Rattle.laws.specs.Idioms.{joined, bytes}
 use Rattle.laws.proofs.Bytes.{bytes-length}
 use Rattle.laws.proofs.Runs.{sets-after, joined-length, joined-take}
 use Rattle.whole.proofs.Places.{records-are}
-use Rattle.writer.specs.Answers.{counts}
+use Rattle.encode.specs.Counts.{counts}
 
 module _ (form : ℕ) (i : Task) where
   pub record-length : length (recordBytes form i) ≡ recordSize form

@@ -1,8 +1,8 @@
 -- A record's five figures. Assumes nothing.
 use borrow.Author.Needs.{needs}
-use Rattle.writer.proofs.Stores.{record-stores}
-use Rattle.writer.proofs.put_task.Statement.{statement}
-use Rattle.writer.proofs.put_task.Tie as tie
+use Rattle.encode.proofs.Stores.{record-stores}
+use Rattle.encode.proofs.put_task.Statement.{statement}
+use Rattle.encode.proofs.put_task.Tie as tie
 
 returns : tie.Need-returns
 returns c =

@@ -9,8 +9,8 @@ use lib.Seq.{sets}
 use Rattle.laws.specs.Idioms.{joined, bytes}
 use Rattle.laws.proofs.Bytes.{bytes-length}
 use Rattle.laws.proofs.Runs.{store-next}
-use Rattle.writer.proofs.put_figures.Statement.{statement}
-use Rattle.writer.proofs.put_figures.Tie as tie
+use Rattle.encode.proofs.put_figures.Statement.{statement}
+use Rattle.encode.proofs.put_figures.Tie as tie
 
 abbrev Inv-loop : tie.InvT-loop
 Inv-loop out₀ at figures n i₀ out i = (i ≤ n) × (length out ≡ length out₀) × (out ≡ sets out₀ at (joined (map (bytes 2) (take i figures))))

@@ -2,8 +2,8 @@
 use native.Mathlib.Omega.{arith}
 use borrow.Author.Needs.{needs}
 use lib.ListN.{length-set}
-use Rattle.writer.proofs.put_counts.Statement.{statement}
-use Rattle.writer.proofs.put_counts.Tie as tie
+use Rattle.encode.proofs.put_counts.Statement.{statement}
+use Rattle.encode.proofs.put_counts.Tie as tie
 
 pub put-counts-spec : {M : Type 1} → statement M
 put-counts-spec =

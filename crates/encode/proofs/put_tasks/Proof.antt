@@ -11,9 +11,9 @@ use Rattle.rules.specs.File.{recordsAt, recordSize, recordBytes}
 use Rattle.laws.specs.Idioms.{joined}
 use Rattle.laws.proofs.Runs.{unmapped, store-next}
 use Rattle.whole.proofs.Places.{record-limit, record-place, record-within}
-use Rattle.writer.proofs.Stores.{record-length}
-use Rattle.writer.proofs.put_tasks.Statement.{statement}
-use Rattle.writer.proofs.put_tasks.Tie as tie
+use Rattle.encode.proofs.Stores.{record-length}
+use Rattle.encode.proofs.put_tasks.Statement.{statement}
+use Rattle.encode.proofs.put_tasks.Tie as tie
 
 abbrev Inv-loop : tie.InvT-loop
 Inv-loop out₀ t count done₀ out done =
