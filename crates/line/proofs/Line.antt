@@ -4,8 +4,8 @@ use mathlib.Core.List.{List}
 use Prim.Native.Nat.{ℕ, _+_, _<_, _≤_}
 use lib.ListN.{length}
 use borrow.Author.Tests.{le-leb, lt-leb}
 use Rattle.text.specs.Put.{Put}
-use Rattle.text.specs.Line.{line, add}
+use Rattle.line.specs.Line.{line, add}
 
 module _ (l : List ℕ) (at : ℕ) (w : List ℕ) where
   pub no-room : length l < at + length w → line l at ≡ add w (line l at)

@@ -1,9 +1,9 @@
 -- `word` meets its contract. Assumes nothing.
 use native.Mathlib.Omega.{arith}
 use borrow.Author.Needs.{needs}
-use Rattle.text.proofs.Line.{no-room, room}
-use Rattle.text.proofs.word.Statement.{statement}
-use Rattle.text.proofs.word.Tie as tie
+use Rattle.line.proofs.Line.{no-room, room}
+use Rattle.line.proofs.word.Statement.{statement}
+use Rattle.line.proofs.word.Tie as tie
 
 pub word-spec : {M : Type 1} → statement M
 word-spec =
