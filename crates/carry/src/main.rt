@@ -4,12 +4,13 @@ use rules::Read;
 use rules::Refusal;
 use rules::Rejudged;
 use rules::Table;
-use text::labelled;
-use text::word;
+use line::front;
+use line::labelled;
+use line::word;
 
 // The first n bytes to standard output.
 fn say(line: &[u8], n: usize) {
-    io::write_all(libc::STDOUT_FILENO, text::front(line, n));
+    io::write_all(libc::STDOUT_FILENO, front(line, n));
 }
 
 // Document 01's refusals of a file, in a few words.
@@ -157,7 +158,7 @@ fn say_judged(t: Table, again: Rejudged, fresh: u64) {
 fn judge_again(older: Table, newer: Table) {
     say_judged(
         newer,
-        judge::judge_carried(older, newer),
+        rejudge::judge_carried(older, newer),
         fresh_rounds(newer),
     );
 }

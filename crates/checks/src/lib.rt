@@ -1,54 +1,13 @@
-// Checks 5 to 11 of a table, in their order: 5 to 8 of its board, 9 to 11 of its tasks.
+// Checks 5 to 11 of a table, in their order: 5 to 8 of its board, of which 6 and 7 are in `timing`, then 9 to 11, which are in `tasks`.
 ghost use mathlib.Core.Path.{_≡_};
-ghost use mathlib.Core.Bool.{not};
-ghost use Prim.Native.Nat.{_%_, _≤_};
-ghost use Rattle.laws.specs.Idioms.{entry, within};
-ghost use Rattle.rules.specs.Tasks.{noTask};
+ghost use Prim.Native.Nat.{_≤_};
+ghost use Rattle.laws.specs.Idioms.{entry};
 ghost use Rattle.rules.specs.Chain.{first};
-ghost use Rattle.rules.specs.Refusals.{countsFault, figureFault, relationFault, setFault, timeFault};
-ghost use Rattle.rules.specs.Refusals.{checkTiming, boardRefusal, checkBoard, checkTasks, checkTable};
-ghost use Rattle.checks.specs.Ranges.{notBurst, outOfRange};
-ghost use Rattle.checks.specs.Faults.{earliest, noFaults, withTask, toldBy};
-use delays::figure;
-use rules::Picos;
+ghost use Rattle.rules.specs.Refusals.{countsFault, setFault, boardRefusal, checkBoard, checkTable};
 use rules::Refusal;
 use rules::Table;
-use rules::Task;
 use rules::refused;
-
-// The lowest and highest of a figure.
-pub struct Limits(pub u16, pub u16);
-
-// "The ranges stand as one table of lowest and highest; BL has 4 and 16 there"
-const LIMITS: [Limits; 15] = [
-    Limits(1, 5000),
-    Limits(1, 127),
-    Limits(1, 127),
-    Limits(1, 127),
-    Limits(1, 127),
-    Limits(4, 16),
-    Limits(1, 127),
-    Limits(1, 127),
-    Limits(1, 127),
-    Limits(1, 127),
-    Limits(1, 127),
-    Limits(1, 127),
-    Limits(0, 127),
-    Limits(64, 2048),
-    Limits(0, 65535),
-];
-
-fn outside(lowest: u64, highest: u64, x: u64) -> bool
-    ensures { λ r. ⌜ r ≡ not (within lowest highest x) ⌝ }
-{
-    if x < lowest {
-        return true;
-    }
-    if highest < x {
-        return true;
-    }
-    false
-}
+use tasks::outside;
 
 // "Cores 1 to 8, partitions 1 to 16, tasks 1 to 32", and the fourth byte.
 fn counts_fault(cores: u8, partitions: u8, tasks: u8, fourth: u8) -> bool
@@ -67,99 +26,6 @@ fn counts_fault(cores: u8, partitions: u8, tasks: u8, fourth: u8) -> bool
         return true;
     }
     false
-}
-
-// "of the values between only 8 passes"
-fn not_burst(x: u16) -> bool
-    ensures { λ r. ⌜ r ≡ notBurst x ⌝ }
-{
-    if x == 4 {
-        return false;
-    }
-    if x == 8 {
-        return false;
-    }
-    x != 16
-}
-
-// Is x, figure k, outside its range? Figure 6 is BL.
-fn is_outside(limits: Limits, k: usize, x: u16) -> bool
-    ensures { λ r. ⌜ r ≡ outOfRange (limits .0) (limits .1) k x ⌝ }
-{
-    if x < limits.0 {
-        return true;
-    }
-    if limits.1 < x {
-        return true;
-    }
-    if k == 6 { not_burst(x) } else { false }
-}
-
-// The rules' remainder, which is the number itself where the divisor is 0.
-fn remainder(a: u64, b: u64) -> u64
-    ensures { λ r. ⌜ r ≡ a % b ⌝ }
-{
-    if b == 0 { a } else { a % b }
-}
-
-// Is relation k, as listed, broken?
-fn relation_fault(row: [u16; 15], k: u8) -> bool
-    requires { ⌜ (1 ≤ k) × (k ≤ 5) ⌝ }
-    ensures { λ r. ⌜ r ≡ relationFault row k ⌝ }
-{
-    if k == 1 {
-        return figure(row, delays::TWR) < figure(row, delays::TWTR);
-    }
-    if k == 2 {
-        return delays::turn(row) < figure(row, delays::CL);
-    }
-    if k == 3 {
-        return figure(row, delays::CL) + figure(row, delays::BL) / 2 + 2
-            <= figure(row, delays::TRTP);
-    }
-    if k == 4 {
-        return figure(row, delays::TRCD) + delays::hit(row).0 <= figure(row, delays::TRAS);
-    }
-    remainder(figure(row, delays::NCOLS), figure(row, delays::BL)) != 0
-}
-
-// 6 "a timing figure is outside its range"
-fn check_ranges(row: [u16; 15]) -> Refusal
-    ensures { λ r. ⌜ r ≡ first 6 (figureFault row) 15 ⌝ }
-{
-    let table = LIMITS;
-    let mut i: usize = 0;
-    while i < 15 {
-        if is_outside(table[i], i + 1, row[i]) {
-            return refused(6, (i + 1) as u8);
-        }
-        i += 1;
-    }
-    refused(0, 0)
-}
-
-// 7 "a relation is broken (place: 1 to 5 as listed)"
-fn check_relations(row: [u16; 15]) -> Refusal
-    ensures { λ r. ⌜ r ≡ first 7 (relationFault row) 5 ⌝ }
-{
-    let mut i: u8 = 0;
-    while i < 5 {
-        if relation_fault(row, i + 1) {
-            return refused(7, i + 1);
-        }
-        i += 1;
-    }
-    refused(0, 0)
-}
-
-fn check_timing(row: [u16; 15]) -> Refusal
-    ensures { λ r. ⌜ r ≡ checkTiming row ⌝ }
-{
-    let ranges = check_ranges(row);
-    if ranges.number != 0 {
-        return ranges;
-    }
-    check_relations(row)
 }
 
 fn set_fault(partitions: u8, set: u16) -> bool
@@ -204,7 +70,7 @@ pub fn board_refusal(
     if counts_fault(cores, partitions, tasks, fourth) {
         return refused(5, 0);
     }
-    let timing = check_timing(row);
+    let timing = timing::check(row);
     if timing.number != 0 {
         return timing;
     }
@@ -219,101 +85,6 @@ pub fn check_board(t: Table) -> Refusal
     board_refusal(t.cores, t.partitions, t.tasks, t.fourth, row, &sets)
 }
 
-// "10^8 ≤ T ≤ 10^12; 1 ≤ D ≤ T; 1 ≤ C ≤ D"
-fn time_fault(x: Task) -> bool
-    ensures { λ r. ⌜ r ≡ timeFault x ⌝ }
-{
-    if outside(100000000, 1000000000000, x.period.0) {
-        return true;
-    }
-    if outside(1, x.period.0, x.deadline.0) {
-        return true;
-    }
-    outside(1, x.deadline.0, x.exec.0)
-}
-
-// The first task at fault of each kind, 9 to 11; 0 where none is.
-pub struct Faults {
-    pub core: u8,
-    pub time: u8,
-    pub request: u8,
-}
-
-fn earlier(seen: u8, k: u8, fault: bool) -> u8
-    ensures { λ r. ⌜ r ≡ earliest seen k fault ⌝ }
-{
-    if seen != 0 {
-        return seen;
-    }
-    if fault { k } else { 0 }
-}
-
-pub fn no_faults() -> Faults
-    ensures { λ r. ⌜ r ≡ noFaults ⌝ }
-{
-    Faults {
-        core: 0,
-        time: 0,
-        request: 0,
-    }
-}
-
-// What has been seen, and task number k.
-pub fn noted(seen: Faults, k: u8, cores: u8, x: Task) -> Faults
-    ensures { λ r. ⌜ r ≡ withTask seen k cores x ⌝ }
-{
-    Faults {
-        core: earlier(seen.core, k, outside(1, cores as u64, x.core as u64)),
-        time: earlier(seen.time, k, time_fault(x)),
-        request: earlier(seen.request, k, 1000000 < x.requests),
-    }
-}
-
-// "The lowest number that applies is given": 9, then 10, then 11.
-pub fn told(seen: Faults) -> Refusal
-    ensures { λ r. ⌜ r ≡ toldBy seen ⌝ }
-{
-    if seen.core != 0 {
-        return refused(9, seen.core);
-    }
-    if seen.time != 0 {
-        return refused(10, seen.time);
-    }
-    if seen.request != 0 {
-        return refused(11, seen.request);
-    }
-    refused(0, 0)
-}
-
-pub fn no_task() -> Task
-    ensures { λ r. ⌜ r ≡ noTask ⌝ }
-{
-    Task {
-        core: 0,
-        exec: Picos(0),
-        period: Picos(0),
-        deadline: Picos(0),
-        requests: 0,
-    }
-}
-
-// 9 to 11: the tasks, in one walk. Beyond the array there is no task.
-pub fn check_tasks(t: Table) -> Refusal
-    ensures { λ r. ⌜ r ≡ checkTasks t ⌝ }
-{
-    let mut seen = no_faults();
-    let mut i: u8 = 0;
-    while i < t.tasks {
-        let mut x = no_task();
-        if i < 32 {
-            x = t.task[i as usize];
-        }
-        seen = noted(seen, i + 1, t.cores, x);
-        i += 1;
-    }
-    told(seen)
-}
-
 // "a table passed directly meets 5 to 11"
 pub fn check(t: Table) -> Refusal
     ensures { λ r. ⌜ r ≡ checkTable t ⌝ }
@@ -322,5 +93,5 @@ pub fn check(t: Table) -> Refusal
     if board.number != 0 {
         return board;
     }
-    check_tasks(t)
+    tasks::check(t)
 }

@@ -14,7 +14,6 @@
 --     Refused    what a refused operation gives
 --     Point2     what a verdict says
 --     Point3     a newer table judged from the older one's bounds
---     Exact      every promise allows one result
 pub mod ByteSums
 pub mod Codes
 pub mod Places
@@ -29,4 +28,3 @@ pub mod Files
 pub mod Refused
 pub mod Point2
 pub mod Point3
-pub mod Exact

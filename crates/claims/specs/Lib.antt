@@ -3,9 +3,7 @@
 --     Refused  point 1: what a refused operation gives
 --     Point2   what a verdict says
 --     Point3   a newer table judged from the older one's bounds
---     Exact    every promise allows one result
 pub mod Files
 pub mod Refused
 pub mod Point2
 pub mod Point3
-pub mod Exact

@@ -3,9 +3,9 @@ use rules::Answer;
 use rules::Delay;
 use rules::Refusal;
 use rules::Verdict;
-use text::labelled;
-use text::number;
-use text::word;
+use line::labelled;
+use line::number;
+use line::word;
 
 pub fn end_line(out: &mut [u8], at: usize) -> usize {
     word(out, at, b"\n")

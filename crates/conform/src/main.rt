@@ -13,8 +13,9 @@ use rules::Judged;
 use rules::Refusal;
 use rules::Table;
 use rules::Written;
-use text::labelled;
-use text::word;
+use line::front;
+use line::labelled;
+use line::word;
 ghost use Prim.Native.Nat.{_≤_};
 ghost use lib.ListN.{length};
 
@@ -33,7 +34,7 @@ fn rewrite(table: Table, file: &[u8], out: &mut [u8]) -> usize {
     let mut room = [165u8; 2048];
     let written = writer::write(table, &mut room);
     let n = written.length;
-    accepted(out, n, is_same(text::front(&room, n), file))
+    accepted(out, n, is_same(front(&room, n), file))
 }
 
 fn is_same(a: &[u8], b: &[u8]) -> bool {
@@ -170,8 +171,8 @@ fn cut() -> bool {
 
 fn say_answer(letter: u8, payload: &[u8; 65536], n: usize) {
     let mut out = [0u8; 4096];
-    let end = answer(letter, text::front(payload, n), &mut out);
-    io::write_all(libc::STDOUT_FILENO, text::front(&out, end));
+    let end = answer(letter, front(payload, n), &mut out);
+    io::write_all(libc::STDOUT_FILENO, front(&out, end));
 }
 
 // A case after its head: the payload's n bytes are read, and the answer is written.

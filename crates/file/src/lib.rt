@@ -68,7 +68,7 @@ fn tasks(file: &[u8], n: usize) -> [Task; 32]
     requires { ⌜ recordAt (formIn (now file)) (coresIn (now file)) (n + 1) ≤ length (now file) ⌝ }
     ensures { λ r. ⌜ r ≡ filled 32 noTask (tasksTo (now (file .entry)) n) ⌝ }
 {
-    let none = checks::no_task();
+    let none = tasks::no_task();
     let mut all = [none; 32];
     let mut i: usize = 0;
     while i < n {
@@ -143,14 +143,14 @@ fn records_in(file: &[u8]) -> Refusal
 {
     let cores = file[0];
     let n = file[2];
-    let mut seen = checks::no_faults();
+    let mut seen = tasks::no_faults();
     let mut i: u8 = 0;
     while i < n {
         let task = task_in(record_in(file, whole::size(i)));
-        seen = checks::noted(seen, i + 1, cores, task);
+        seen = tasks::noted(seen, i + 1, cores, task);
         i += 1;
     }
-    checks::told(seen)
+    tasks::told(seen)
 }
 
 // 1 to 11. Sets that have no room in a table are refused by their count before they are looked at.
@@ -175,7 +175,7 @@ pub fn check(file: &[u8]) -> Refusal
 fn read_nothing(refusal: Refusal) -> Read
     ensures { λ r. ⌜ r ≡ readNothing refusal ⌝ }
 {
-    let none = checks::no_task();
+    let none = tasks::no_task();
     let task = [none; 32];
     let table = Table {
         cores: 0,

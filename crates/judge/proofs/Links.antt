@@ -9,14 +9,11 @@ use Rattle.rules.specs.declared.Table.{Table}
 use Rattle.rules.specs.declared.Refusal.{Refusal}
 use Rattle.rules.specs.declared.Answer.{Answer}
 use Rattle.rules.specs.declared.Judged.{Judged}
-use Rattle.rules.specs.declared.Rejudged.{Rejudged}
 use Rattle.rules.specs.Tasks.{latest, taskOf}
 use Rattle.rules.specs.Judgement.{misses, judge}
 use Rattle.rules.specs.Sound.{Sound}
 use Rattle.rules.specs.Refusals.{checkJudged, askedFault, lateStart, highStart, checkOne, checkAll, checkStart}
-use Rattle.rules.specs.Order.{worsens}
-use Rattle.rules.specs.Operations.{judgeOne, judgeAll, answersFrom, fresh, olderBound, checkBoth, isCarried, rejudging}
-use Rattle.rules.proofs.Again.{rejudged-verdicts}
+use Rattle.rules.specs.Operations.{judgeOne, judgeAll}
 use Rattle.rules.proofs.Chain.{both-accepted, first-refuses, second-decides, no-fault}
 use Rattle.rules.proofs.Accepted.{sound}
 use Rattle.rules.proofs.Starts.{judged-accepted}
@@ -25,7 +22,6 @@ use Rattle.laws.proofs.Tests.{inside}
 use Rattle.climb.specs.declared.Climbed.{Climbed}
 use Rattle.rounds.specs.Numbered.{climbedFor, notJudged, noneJudged, firstLate, firstHigh, judgedTasks}
 use Rattle.rules.specs.Chain.{accepted, refused, isAccepted, _orElse_, given}
-use Rattle.judge.specs.Carried.{notRejudged, Carried}
 
 -- a refusal that a call gave: its number is 0, or is not
 pub passes : {r s : Refusal} → r ≡ s → r .number ≡ 0 → isAccepted s ≡ true
@@ -138,34 +134,3 @@ module _ (t : Table) (starts : List ℕ) where
     pub all-tasks : isAccepted (firstLate t starts) ≡ true → judgedTasks t starts ≡ judgeAll t starts
     unfolding judgedTasks judgeAll
     all-tasks h = let e : checkAll t (entry 0 starts) ≡ firstHigh t starts = all-is ∙ simp (table, h) in rw e
-
--- ---- a newer table after an older one
-
-module _ (older newer : Table) where
-  pub carried-promise : {r : Rejudged} → r ≡ rejudging older newer → Carried older newer r
-  unfolding rejudging
-  carried-promise e = record { is = e; as-fresh = λ passed. rw e (rejudged-verdicts older newer (rw e at passed)) }
-
-  again-refused : (r : Refusal) → isAccepted r ≡ false → checkBoth older newer ≡ r → notRejudged r ≡ rejudging older newer
-  unfolding rejudging notRejudged isCarried
-  again-refused r h e = simp (e, h)
-
-  pub again-older : isAccepted (checkJudged older) ≡ false → notRejudged (checkJudged older) ≡ rejudging older newer
-  unfolding checkBoth
-  again-older h = again-refused (checkJudged older) h (simp h)
-
-  module _ (was : isAccepted (checkJudged older) ≡ true) where
-    pub again-newer : isAccepted (checkJudged newer) ≡ false → notRejudged (checkJudged newer) ≡ rejudging older newer
-    unfolding checkBoth
-    again-newer h = again-refused (checkJudged newer) h (simp was)
-
-    module _ (is : isAccepted (checkJudged newer) ≡ true) {r : Refusal} {answers : List Answer} (from : r ≡ checkJudged newer) where
-      pub again-carried : worsens older newer ≡ true → answers ≡ answersFrom newer (olderBound older)
-          → _≡_ {A = Rejudged} (record { refusal = r; carried = true; answers = answers }) (rejudging older newer)
-      unfolding rejudging isCarried checkBoth
-      again-carried h e = rw from (simp (was, is, h, e))
-
-      pub again-fresh : worsens older newer ≡ false → answers ≡ answersFrom newer fresh
-          → _≡_ {A = Rejudged} (record { refusal = r; carried = false; answers = answers }) (rejudging older newer)
-      unfolding rejudging isCarried checkBoth
-      again-fresh h e = rw from (simp (was, is, h, e))

@@ -13,7 +13,7 @@ use Rattle.rules.specs.Listing.{listing}
 use Rattle.rules.proofs.Accepted.{sound}
 use Rattle.rules.proofs.Reading.{read-accepted}
 use Rattle.listing.specs.Lines.{tableText, refusedLine}
-use Rattle.listing.proofs.TaskLines.{text-whole}
+use Rattle.listing.proofs.TableLines.{text-whole}
 
 module _ (s : List ℕ) (r : Read) (read : r ≡ reading s) where
   pub listed-refused : (r .refusal .number ≡ 0 → ⊥) → listing s ≡ refusedLine (r .refusal .number)

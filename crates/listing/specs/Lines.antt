@@ -1,30 +1,15 @@
--- The parts of a listing that code makes one after the other, and the whole for a table passed directly. Assumes nothing.
+-- What is listed for a table passed directly, and for a refusal. Assumes nothing.
 use mathlib.Core.Bool.{cond}
-use mathlib.Core.List.{List, [], _∷_, map}
-use Prim.Native.Nat.{ℕ, zero, suc}
+use mathlib.Core.List.{List, [], _∷_}
+use Prim.Native.Nat.{ℕ}
 use lib.Dec.{leb}
 use Rattle.rules.specs.declared.Table.{Table}
 use Rattle.rules.specs.declared.Answer.{Answer}
-use Rattle.rules.specs.Judgement.{misses}
-use Rattle.rules.specs.Tasks.{coreOf}
-use Rattle.laws.specs.Idioms.{text, upTo, entry, joined, those}
+use Rattle.laws.specs.Idioms.{text}
 use Rattle.laws.specs.Decimal.{decimal}
-use Rattle.rules.specs.Listing.{line, taskLine, isMiss, lastLine, tableLines}
+use Rattle.rules.specs.Listing.{line, tableLines}
 
--- the lines of the first n tasks
-unfoldable pub rows : Table → List Answer → ℕ → List ℕ
-rows t answers n = joined (map (λ k. taskLine k (coreOf t k) (entry (misses 0) answers k)) (upTo n))
-
--- the last line for the first n tasks
-unfoldable pub last : List Answer → ℕ → List ℕ
-last answers n = lastLine (those (λ k. isMiss (entry (misses 0) answers k .verdict)) (upTo n))
-
--- the last line where task number k is the first that misses; 0 where none does
-abbrev pub lastFor : ℕ → List ℕ
-lastFor zero = lastLine []
-lastFor (suc k) = lastLine (suc k ∷ [])
-
--- what is listed for a table passed directly. Tables have 1 to 32 tasks: for a higher count there is nothing to list
+-- Tables have 1 to 32 tasks: for a higher count there is nothing to list
 unfoldable pub tableText : Table → List Answer → List ℕ
 tableText t answers = cond (leb (t .tasks) 32) (tableLines t answers) []
 

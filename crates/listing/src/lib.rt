@@ -1,9 +1,6 @@
 // The listing of document 01: its bytes for a table with its answers, and for a table file, into a lent buffer.
-mod last;
-mod rows;
-
-use last::first_miss;
-use last::put_last;
+use rows::first_miss;
+use rows::put_last;
 use rows::put_rows;
 use rules::Answer;
 use rules::Table;

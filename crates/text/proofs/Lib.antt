@@ -1,7 +1,5 @@
 -- Laws that belong to no one function.
 --     Put      texts one after the other, and at the start of a lent buffer
 --     Decimal  the digits of a number
---     Line     a word for which there is room, or none
 pub mod Put
 pub mod Decimal
-pub mod Line

@@ -1,12 +1,10 @@
-// Words and numbers as text in a lent buffer: put where there is room for them, given to a buffer whole or not at all, added to a
-// line whole or not at all.
+// Words and numbers as text in a lent buffer: put where there is room for them, given to a buffer whole or not at all.
 ghost use mathlib.Core.Path.{_≡_};
 ghost use mathlib.Core.List.{[], _∷_, _++_};
 ghost use Prim.Native.Nat.{_+_, _≤_};
-ghost use lib.ListN.{length, take};
+ghost use lib.ListN.{length};
 ghost use Rattle.laws.specs.Decimal.{decimal};
 ghost use Rattle.text.specs.Put.{Put, Spelled, Given};
-ghost use Rattle.text.specs.Line.{line, add};
 
 // ---- one after the other, the place after each being the answer: the caller sees that there is room
 
@@ -70,7 +68,7 @@ pub fn put_phrase(buf: &mut [u8], at: usize, word: &[u8], n: u64, after: u8) -> 
     put_field(buf, end, n, after)
 }
 
-// ---- whole or not at all: none of these asks for room
+// ---- whole or not at all: this asks for no room
 
 // A text at the start of a lent buffer, and its length; where it does not fit, nothing, and 0.
 pub fn give(text: &[u8], out: &mut [u8]) -> usize
@@ -80,40 +78,4 @@ pub fn give(text: &[u8], out: &mut [u8]) -> usize
         return 0;
     }
     put_word(out, 0, text)
-}
-
-// A word after the line that ends at a place, and the line's end then.
-pub fn word(buf: &mut [u8], at: usize, w: &[u8]) -> usize
-    ensures { λ r. ⌜ line (now (buf .exit)) r ≡ add (now (w .entry)) (line (now (buf .entry)) at) ⌝ }
-{
-    if buf.len() < at {
-        return at;
-    }
-    if buf.len() - at < w.len() {
-        return at;
-    }
-    put_word(buf, at, w)
-}
-
-pub fn number(buf: &mut [u8], at: usize, n: u64) -> usize
-    ensures { λ r. ⌜ line (now (buf .exit)) r ≡ add (decimal n) (line (now (buf .entry)) at) ⌝ }
-{
-    let mut digits = [0u8; 20];
-    let k = put_number(&mut digits, 0, n);
-    word(buf, at, &digits[..k])
-}
-
-// A word and a number after it.
-pub fn labelled(buf: &mut [u8], at: usize, w: &[u8], n: u64) -> usize
-    ensures { λ r. ⌜ line (now (buf .exit)) r ≡ add (decimal n) (add (now (w .entry)) (line (now (buf .entry)) at)) ⌝ }
-{
-    let end = word(buf, at, w);
-    number(buf, end, n)
-}
-
-// The first n bytes, or all where there are fewer.
-pub fn front(s: &[u8], n: usize) -> &[u8]
-    ensures { λ r. ⌜ now r ≡ take n (now (s .entry)) ⌝ }
-{
-    if n <= s.len() { &s[..n] } else { s }
 }

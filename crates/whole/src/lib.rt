@@ -62,7 +62,7 @@ fn trailer(file: &[u8]) -> Refusal
     if bytes::le32(file, e) as usize != e {
         return rules::refused(3, 0);
     }
-    let total = bytes::sums(&file[..e]);
+    let total = sums::sums(&file[..e]);
     if bytes::le32(file, n - 8) as u64 != total.sum {
         return rules::refused(4, 0);
     }

@@ -1,5 +1,3 @@
--- What the proofs of the functions stand on.
---     Stores   records, trailer and body as runs of stores
+-- What the proof of writing stands on.
 --     Writing  what writing answers, one refusal at a time
-pub mod Stores
 pub mod Writing

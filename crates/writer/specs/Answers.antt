@@ -1,15 +1,11 @@
--- The counts of a table as bytes, what a refused writing answers, and what writing promises. Assumes nothing.
+-- What a refused writing answers, and what writing promises. Assumes nothing.
 use Prim.Native.Nat.{ℕ}
 use mathlib.Core.Path.{_≡_}
-use mathlib.Core.List.{List, [], _∷_}
+use mathlib.Core.List.{List}
 use Rattle.rules.specs.declared.Table.{Table}
 use Rattle.rules.specs.declared.Refusal.{Refusal}
 use Rattle.rules.specs.declared.Written.{Written}
 use Rattle.rules.specs.Operations.{writing, outAfter}
-
--- "4 bytes: cores, partitions, tasks, 0"
-abbrev pub counts : Table → List ℕ
-counts t = t .cores ∷ t .partitions ∷ t .tasks ∷ t .fourth ∷ []
 
 -- "a refused writing the length 0"
 abbrev pub wroteNothing : Refusal → Written

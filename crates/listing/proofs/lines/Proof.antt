@@ -4,7 +4,7 @@ use native.Mathlib.Omega.{arith}
 use borrow.Author.Needs.{needs}
 use lib.Seq.{length-take-le}
 use Rattle.text.proofs.Put.{nothing, front-length, front, given-whole}
-use Rattle.listing.proofs.TaskLines.{text-none, text-whole}
+use Rattle.listing.proofs.TableLines.{text-none, text-whole}
 use Rattle.listing.proofs.lines.Statement.{statement}
 use Rattle.listing.proofs.lines.Tie as tie
 

@@ -2,7 +2,7 @@
 use native.Mathlib.Omega.{arith}
 use borrow.Author.Needs.{needs}
 use Rattle.text.proofs.Put.{_then_}
-use Rattle.listing.proofs.TaskLines.{table-lines}
+use Rattle.listing.proofs.TableLines.{table-lines}
 use Rattle.listing.proofs.put_table.Statement.{statement}
 use Rattle.listing.proofs.put_table.Tie as tie
 

@@ -12,7 +12,7 @@ use Rattle.rules.specs.File.{body, encode}
 use Rattle.rules.proofs.Accepted.{sound}
 use Rattle.laws.proofs.Runs.{unmapped}
 use Rattle.whole.proofs.Places.{length-is}
-use Rattle.writer.proofs.Stores.{body-length}
+use Rattle.encode.proofs.Stores.{body-length}
 use Rattle.writer.proofs.Writing.{encode-length, table-refused, no-room, room, file-stores}
 use Rattle.writer.proofs.write.Statement.{statement}
 use Rattle.writer.proofs.write.Tie as tie

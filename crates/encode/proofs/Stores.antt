@@ -1,0 +1,78 @@
+-- The figures of a record, the numbers of a trailer and the parts of a body, each stored after the one before. Assumes nothing.
+use mathlib.Core.Path.{_≡_}
+use mathlib.Core.List.{List, _++_, map}
+use Prim.Native.Nat.{ℕ, _+_, _≤_}
+use native.Mathlib.Omega.{arith}
+use lib.ListN.{length, length-append, take}
+use lib.Seq.{sets, take-all}
+use Rattle.rules.specs.declared.Task.{Task}
+use Rattle.rules.specs.declared.Table.{Table}
+use Rattle.rules.specs.Tasks.{C, T, D, H, tasksOf}
+use Rattle.rules.specs.File.{setsAt, recordsAt, recordSize, fileLength, recordBytes, sumOf, runningSum, trailer, body}
+use Rattle.laws.specs.Idioms.{joined, bytes}
+use Rattle.laws.proofs.Bytes.{bytes-length}
+use Rattle.laws.proofs.Runs.{sets-after, joined-length, joined-take}
+use Rattle.whole.proofs.Places.{records-are}
+use Rattle.encode.specs.Counts.{counts}
+
+module _ (form : ℕ) (i : Task) where
+  pub record-length : length (recordBytes form i) ≡ recordSize form
+  unfolding recordBytes recordSize
+  record-length = simp (length-append, bytes-length)
+
+  pub record-stores : (out : List ℕ) (at : ℕ)
+      → sets (sets (sets (sets (sets out at (bytes 1 (i .core))) (at + 1) (bytes 8 (C i))) (at + 9) (bytes 8 (T i))) (at + 17) (bytes 8 (D i))) (at + 25) (bytes 4 (H i))
+      ≡ sets out at (recordBytes form i)
+  unfolding recordBytes
+  record-stores out at =
+      let a = bytes 1 (i .core) in
+      let b = a ++ bytes 8 (C i) in
+      let c = b ++ bytes 8 (T i) in
+      let first = sets-after a (bytes 8 (C i)) out at (at + 1) (simp bytes-length) in
+      let second = sets-after b (bytes 8 (T i)) out at (at + 9) (simp (length-append, bytes-length)) in
+      let third = sets-after c (bytes 8 (D i)) out at (at + 17) (simp (length-append, bytes-length)) in
+      rw (first, second, third) (sets-after (c ++ bytes 8 (D i)) (bytes 4 (H i)) out at (at + 25) (simp (length-append, bytes-length)))
+
+pub trailer-stores : (s out : List ℕ) (at : ℕ)
+    → sets (sets (sets out at (bytes 4 (length s))) (at + 4) (bytes 4 (sumOf s))) (at + 8) (bytes 4 (runningSum s)) ≡ sets out at (trailer s)
+unfolding trailer
+trailer-stores s out at =
+    let a = bytes 4 (length s) in
+    rw (sets-after a (bytes 4 (sumOf s)) out at (at + 4) (simp bytes-length))
+    (sets-after (a ++ bytes 4 (sumOf s)) (bytes 4 (runningSum s)) out at (at + 8) (simp (length-append, bytes-length)))
+
+-- a table's arrays, and counts that they have room for
+module _ (t : Table) (figures : length (t .timing) ≡ 15) (places : length (t .sets) ≡ 8) (cores : t .cores ≤ 8) where
+  timing-bytes : List ℕ
+  timing-bytes = joined (map (bytes 2) (t .timing))
+
+  sets-bytes : List ℕ
+  sets-bytes = joined (map (bytes 2) (take (t .cores) (t .sets)))
+
+  -- the sets start after the counts and the timing figures, and the records after the sets
+  timing-ends : length (counts t ++ timing-bytes) ≡ setsAt (t .fourth)
+  unfolding timing-bytes setsAt
+  timing-ends = rw length-append (omega (arith, joined-length (bytes 2) 2 (bytes-length 2) (t .timing)))
+
+  sets-end : length (counts t ++ timing-bytes ++ sets-bytes) ≡ recordsAt (t .fourth) (t .cores)
+  unfolding sets-bytes
+  sets-end =
+      rw (length-append (counts t ++ timing-bytes) sets-bytes, timing-ends, joined-take (bytes 2) 2 (bytes-length 2) (t .sets) (t .cores) (omega arith), records-are)
+
+  pub body-stores : (out : List ℕ)
+      → sets (sets (sets (sets out 0 (counts t)) 4 (joined (map (bytes 2) (take 15 (t .timing))))) (setsAt (t .fourth)) (joined (map (bytes 2) (take (t .cores) (t .sets)))))
+      (recordsAt (t .fourth) (t .cores))
+      (joined (map (recordBytes (t .fourth)) (tasksOf t)))
+      ≡ sets out 0 (body t)
+  unfolding body timing-bytes sets-bytes
+  body-stores out =
+      let timing = sets-after (counts t) timing-bytes out 0 4 (omega arith) in
+      let sets = sets-after (counts t ++ timing-bytes) sets-bytes out 0 (setsAt (t .fourth)) (omega (arith, timing-ends)) in
+      rw (take-all 15 (t .timing) (omega arith), timing, sets)
+      (sets-after (counts t ++ timing-bytes ++ sets-bytes) (joined (map (recordBytes (t .fourth)) (tasksOf t))) out 0 (recordsAt (t .fourth) (t .cores)) (omega (arith, sets-end)))
+
+  pub body-length : t .tasks ≤ length (t .task) → fileLength (t .fourth) (t .cores) (t .tasks) ≡ length (body t) + 12
+  unfolding body timing-bytes sets-bytes fileLength
+  body-length tasks =
+      let form = t .fourth in
+      rw length-append (omega (arith, joined-take (recordBytes form) (recordSize form) (record-length form) (t .task) (t .tasks) tasks, sets-end))

@@ -1,0 +1,45 @@
+-- Every promise is exact: each is an equation with its result, or equations with its parts. Assumes nothing.
+use mathlib.Core.Path.{_≡_, sym, _∙_}
+use mathlib.Core.List.{List}
+use Prim.Native.Nat.{ℕ}
+use Rattle.text.specs.Put.{Given}
+use Rattle.capi.proofs.Promises.{judged-once}
+use Rattle.exact.specs.Exact.{Exact, Promises}
+
+-- what equals a rule is one
+only-one : {A : Type 0} (rule : A) → Exact (λ a. a ≡ rule)
+only-one rule a b p q = p ∙ sym q
+
+-- and so is a pair whose parts do
+both : {A B : Type 0} {a c : A} {b d : B} → a ≡ c → b ≡ d → _≡_ {A = A × B} (a, b) (c, d)
+both p q = cc
+
+all-four : {n m : ℕ} {a b c d e f : List ℕ} → n ≡ m → a ≡ b → c ≡ d → e ≡ f → _≡_ {A = ℕ × List ℕ × List ℕ × List ℕ} (n, a, c, e) (m, b, d, f)
+all-four p q r s = cc
+
+-- a text in a lent buffer
+given : (text out : List ℕ) → Exact (λ (r : ℕ × List ℕ). Given text out (r .0) (r .1))
+given text out a b p q = both (p .length-is ∙ sym (q .length-is)) (p .bytes-are ∙ sym (q .bytes-are))
+
+pub promises : Promises
+promises = record {
+  whole = λ s. only-one _;
+  check-file = λ s. only-one _;
+  read = λ s. only-one _;
+  view = λ s k. only-one _;
+  view-refusal = λ s k. only-one _;
+  write = λ t out a b p q. both (p .answered ∙ sym (q .answered)) (p .stored ∙ sym (q .stored));
+  check-tasks = λ t. only-one _;
+  check-board = λ t. only-one _;
+  check = λ t. only-one _;
+  worsens = λ older newer. only-one _;
+  judge-one = λ t k start. only-one _;
+  judge-all = λ t starts. only-one _;
+  judge-carried = λ older newer a b p q. p .is ∙ sym (q .is);
+  list = λ s out. given _ out;
+  lines = λ t answers out. given _ out;
+  ryb-read = λ s. only-one _;
+  ryb-judge = λ s starts bounds rounds by a b p q. let (result, bounds-same, rounds-same, by-same) = judged-once p q in all-four result bounds-same rounds-same by-same;
+  ryb-list = λ s out. given _ out;
+  ryb-record = λ s k. only-one _;
+}

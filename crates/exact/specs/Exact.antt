@@ -1,0 +1,59 @@
+-- "Show that any two results allowed by it coincide": a row for each public operation, with what its contract allows. Assumes nothing.
+use Prim.Native.Nat.{ℕ}
+use mathlib.Core.Path.{_≡_}
+use mathlib.Core.Bool.{Bool}
+use mathlib.Core.List.{List}
+use Rattle.rules.specs.declared.Table.{Table}
+use Rattle.rules.specs.declared.Refusal.{Refusal}
+use Rattle.rules.specs.declared.Answer.{Answer}
+use Rattle.rules.specs.declared.Read.{Read}
+use Rattle.rules.specs.declared.Written.{Written}
+use Rattle.rules.specs.declared.Judged.{Judged}
+use Rattle.rules.specs.declared.AllJudged.{AllJudged}
+use Rattle.rules.specs.declared.Rejudged.{Rejudged}
+use Rattle.rules.specs.Order as Order
+use Rattle.rules.specs.Refusals.{checkBoard, checkTasks, checkTable}
+use Rattle.rules.specs.File.{checkWhole}
+use Rattle.rules.specs.Operations.{checkFile, reading, checkView, viewing, judgeOne, judgeAll}
+use Rattle.rules.specs.Listing.{listing}
+use Rattle.rejudge.specs.Carried.{Carried}
+use Rattle.writer.specs.Answers.{Wrote}
+use Rattle.text.specs.Put.{Given}
+use Rattle.listing.specs.Lines.{tableText}
+use Rattle.capi.specs.Codes.{codeOf}
+use Rattle.capi.specs.Columns.{JudgedFile}
+use Rattle.capi.specs.Record.{recordPlace}
+
+-- a promise that allows one result; of an operation that is lent buffers, the result with their final bytes
+abbrev pub Exact : {A : Type 0} → (A → Type 0) → Type 0
+Exact {A} allowed = (a b : A) → allowed a → allowed b → a ≡ b
+
+pub record Promises : Type 0 where
+  -- whole, file and writer
+  pub whole : (s : List ℕ) → Exact (λ (r : Refusal). r ≡ checkWhole s)
+  pub check-file : (s : List ℕ) → Exact (λ (r : Refusal). r ≡ checkFile s)
+  pub read : (s : List ℕ) → Exact (λ (r : Read). r ≡ reading s)
+  pub view : (s : List ℕ) (k : ℕ) → Exact (λ (part : List ℕ). part ≡ viewing s k)
+  pub view-refusal : (s : List ℕ) (k : ℕ) → Exact (λ (r : Refusal). r ≡ checkView s k)
+  pub write : (t : Table) (out : List ℕ) → Exact (λ (r : Written × List ℕ). Wrote t out (r .0) (r .1))
+  -- tasks
+  pub check-tasks : (t : Table) → Exact (λ (r : Refusal). r ≡ checkTasks t)
+  -- checks
+  pub check-board : (t : Table) → Exact (λ (r : Refusal). r ≡ checkBoard t)
+  pub check : (t : Table) → Exact (λ (r : Refusal). r ≡ checkTable t)
+  -- order
+  pub worsens : (older newer : Table) → Exact (λ (r : Bool). r ≡ Order.worsens older newer)
+  -- judge
+  pub judge-one : (t : Table) (k start : ℕ) → Exact (λ (r : Judged). r ≡ judgeOne t k start)
+  pub judge-all : (t : Table) (starts : List ℕ) → Exact (λ (r : AllJudged). r ≡ judgeAll t starts)
+  -- rejudge
+  pub judge-carried : (older newer : Table) → Exact (λ (r : Rejudged). Carried older newer r)
+  -- listing
+  pub list : (s out : List ℕ) → Exact (λ (r : ℕ × List ℕ). Given (listing s) out (r .0) (r .1))
+  pub lines : (t : Table) (answers : List Answer) (out : List ℕ) → Exact (λ (r : ℕ × List ℕ). Given (tableText t answers) out (r .0) (r .1))
+  -- the C interface
+  pub ryb-read : (s : List ℕ) → Exact (λ (r : ℕ). r ≡ codeOf (checkFile s))
+  pub ryb-judge : (s starts bounds rounds by : List ℕ)
+      → Exact (λ (r : ℕ × List ℕ × List ℕ × List ℕ). JudgedFile s starts bounds rounds by (r .0) (r .1) (r .2) (r .3))
+  pub ryb-list : (s out : List ℕ) → Exact (λ (r : ℕ × List ℕ). Given (listing s) out (r .0) (r .1))
+  pub ryb-record : (s : List ℕ) (k : ℕ) → Exact (λ (r : ℕ). r ≡ recordPlace s k)

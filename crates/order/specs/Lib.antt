@@ -1,0 +1,3 @@
+-- What the comparisons' contracts cite beside the rules.
+--     Same     two tables alike, place by place
+pub mod Same

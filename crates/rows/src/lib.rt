@@ -1,0 +1,112 @@
+// The rows of a listing, into a buffer that has room for them: a line for each task, and the last, that all hold or which misses first.
+use rules::Answer;
+use rules::Delay;
+use rules::Table;
+use rules::Verdict;
+use text::put_field;
+use text::put_phrase;
+use text::put_word;
+ghost use mathlib.Core.Path.{_≡_};
+ghost use mathlib.Core.List.{[], _∷_, _++_};
+ghost use Prim.Native.Nat.{_+_, _≤_};
+ghost use lib.ListN.{length};
+ghost use Rattle.laws.specs.Decimal.{decimal};
+ghost use Rattle.rules.specs.Listing.{line, delayWord, verdictWords, taskLine, isMiss};
+ghost use Rattle.text.specs.Put.{Put};
+ghost use Rattle.rows.specs.Rows.{rows, last, lastFor};
+
+// The end of a line that holds: deciding delay and rounds.
+fn put_delay(buf: &mut [u8], at: usize, by: Delay, rounds: u64) -> usize
+    requires { ⌜ at + 29 ≤ length (now buf) ⌝ }
+    ensures { λ r. ⌜ Put (now (buf .entry)) at (line (delayWord by ∷ decimal rounds ∷ [])) r (now (buf .exit)) ⌝ }
+    ensures { λ r. ⌜ r ≤ at + 29 ⌝ }
+{
+    match by {
+        Delay::Request => put_phrase(buf, at, b"request ", rounds, b'\n'),
+        Delay::Job => put_phrase(buf, at, b"job ", rounds, b'\n'),
+    }
+}
+
+// The end of a line: verdict, bound, deciding delay and rounds.
+fn put_answer(buf: &mut [u8], at: usize, verdict: Verdict, rounds: u64) -> usize
+    requires { ⌜ at + 56 ≤ length (now buf) ⌝ }
+    ensures { λ r. ⌜ Put (now (buf .entry)) at (line (verdictWords verdict ++ decimal rounds ∷ [])) r (now (buf .exit)) ⌝ }
+    ensures { λ r. ⌜ r ≤ at + 56 ⌝ }
+{
+    match verdict {
+        Verdict::Misses => put_phrase(buf, at, b"misses - - ", rounds, b'\n'),
+        Verdict::Holds(bound, by) => {
+            let end = put_phrase(buf, at, b"holds ", bound.0, b' ');
+            put_delay(buf, end, by, rounds)
+        }
+    }
+}
+
+// The line of task number k.
+fn put_row(buf: &mut [u8], at: usize, k: u64, core: u8, answer: Answer) -> usize
+    requires { ⌜ at + 100 ≤ length (now buf) ⌝ }
+    ensures { λ r. ⌜ Put (now (buf .entry)) at (taskLine k core answer) r (now (buf .exit)) ⌝ }
+    ensures { λ r. ⌜ r ≤ at + 100 ⌝ }
+{
+    let verdict = answer.verdict;
+    let number = put_field(buf, at, k, b' ');
+    let end = put_field(buf, number, core as u64, b' ');
+    put_answer(buf, end, verdict, answer.rounds)
+}
+
+// The lines of all tasks.
+pub fn put_rows(buf: &mut [u8], at: usize, t: Table, answers: [Answer; 32]) -> usize
+    requires { ⌜ t .tasks ≤ 32 ⌝ }
+    requires { ⌜ at + 3200 ≤ length (now buf) ⌝ }
+    ensures { λ r. ⌜ Put (now (buf .entry)) at (rows t answers (t .tasks)) r (now (buf .exit)) ⌝ }
+    ensures { λ r. ⌜ r ≤ at + 3200 ⌝ }
+{
+    let n = t.tasks as usize;
+    let mut end = at;
+    let mut i: usize = 0;
+    while i < n {
+        let core = t.task[i].core;
+        let answer = answers[i];
+        i += 1;
+        end = put_row(buf, end, i as u64, core, answer);
+    }
+    end
+}
+
+fn is_miss(verdict: Verdict) -> bool
+    ensures { λ r. ⌜ r ≡ isMiss verdict ⌝ }
+{
+    match verdict {
+        Verdict::Misses => true,
+        Verdict::Holds(_, _) => false,
+    }
+}
+
+// The number of the first task that misses, 0 where none does.
+pub fn first_miss(n: usize, answers: [Answer; 32]) -> u64
+    requires { ⌜ n ≤ 32 ⌝ }
+    ensures { λ r. ⌜ lastFor r ≡ last answers n ⌝ }
+{
+    let mut i: usize = 0;
+    while i < n {
+        let answer = answers[i];
+        i += 1;
+        let verdict = answer.verdict;
+        if is_miss(verdict) {
+            return i as u64;
+        }
+    }
+    0
+}
+
+// That all hold, or the first task that misses.
+pub fn put_last(buf: &mut [u8], at: usize, first: u64) -> usize
+    requires { ⌜ at + 32 ≤ length (now buf) ⌝ }
+    ensures { λ r. ⌜ Put (now (buf .entry)) at (lastFor first) r (now (buf .exit)) ⌝ }
+    ensures { λ r. ⌜ r ≤ at + 32 ⌝ }
+{
+    if first == 0 {
+        return put_word(buf, at, b"all hold\n");
+    }
+    put_phrase(buf, at, b"first miss ", first, b'\n')
+}

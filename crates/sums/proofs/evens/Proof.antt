@@ -1,0 +1,12 @@
+-- The even bytes of a word. Assumes nothing.
+use borrow.Author.Needs.{needs}
+use Rattle.sums.specs.Lanes.{evensOf}
+use Rattle.sums.proofs.evens.Statement.{statement}
+use Rattle.sums.proofs.evens.Tie as tie
+
+pub evens-spec : {M : Type 1} → statement M
+unfolding evensOf
+evens-spec =
+    tie.close
+    (tie.spec (λ c. search needs) (λ c. search needs) (λ c. search needs) (λ c. search needs) (λ c. search needs) (λ c. search needs)
+    (λ c. search needs))

@@ -1,0 +1,125 @@
+// Checks 6 and 7, of a timing row: each figure in its range, then the relations between them.
+ghost use mathlib.Core.Path.{_≡_};
+ghost use Prim.Native.Nat.{_%_, _≤_};
+ghost use Rattle.rules.specs.Chain.{first};
+ghost use Rattle.rules.specs.Refusals.{figureFault, relationFault, checkTiming};
+ghost use Rattle.timing.specs.Ranges.{notBurst, outOfRange};
+use delays::figure;
+use rules::Refusal;
+use rules::refused;
+
+// The lowest and highest of a figure.
+pub struct Limits(pub u16, pub u16);
+
+// "The ranges stand as one table of lowest and highest; BL has 4 and 16 there"
+const LIMITS: [Limits; 15] = [
+    Limits(1, 5000),
+    Limits(1, 127),
+    Limits(1, 127),
+    Limits(1, 127),
+    Limits(1, 127),
+    Limits(4, 16),
+    Limits(1, 127),
+    Limits(1, 127),
+    Limits(1, 127),
+    Limits(1, 127),
+    Limits(1, 127),
+    Limits(1, 127),
+    Limits(0, 127),
+    Limits(64, 2048),
+    Limits(0, 65535),
+];
+
+// "of the values between only 8 passes"
+fn not_burst(x: u16) -> bool
+    ensures { λ r. ⌜ r ≡ notBurst x ⌝ }
+{
+    if x == 4 {
+        return false;
+    }
+    if x == 8 {
+        return false;
+    }
+    x != 16
+}
+
+// Is x, figure k, outside its range? Figure 6 is BL.
+fn is_outside(limits: Limits, k: usize, x: u16) -> bool
+    ensures { λ r. ⌜ r ≡ outOfRange (limits .0) (limits .1) k x ⌝ }
+{
+    if x < limits.0 {
+        return true;
+    }
+    if limits.1 < x {
+        return true;
+    }
+    if k == 6 { not_burst(x) } else { false }
+}
+
+// The rules' remainder, which is the number itself where the divisor is 0.
+fn remainder(a: u64, b: u64) -> u64
+    ensures { λ r. ⌜ r ≡ a % b ⌝ }
+{
+    if b == 0 { a } else { a % b }
+}
+
+// Is relation k, as listed, broken?
+fn relation_fault(row: [u16; 15], k: u8) -> bool
+    requires { ⌜ (1 ≤ k) × (k ≤ 5) ⌝ }
+    ensures { λ r. ⌜ r ≡ relationFault row k ⌝ }
+{
+    if k == 1 {
+        return figure(row, delays::TWR) < figure(row, delays::TWTR);
+    }
+    if k == 2 {
+        return delays::turn(row) < figure(row, delays::CL);
+    }
+    if k == 3 {
+        return figure(row, delays::CL) + figure(row, delays::BL) / 2 + 2
+            <= figure(row, delays::TRTP);
+    }
+    if k == 4 {
+        return figure(row, delays::TRCD) + delays::hit(row).0 <= figure(row, delays::TRAS);
+    }
+    remainder(figure(row, delays::NCOLS), figure(row, delays::BL)) != 0
+}
+
+// 6 "a timing figure is outside its range"
+fn check_ranges(row: [u16; 15]) -> Refusal
+    ensures { λ r. ⌜ r ≡ first 6 (figureFault row) 15 ⌝ }
+{
+    let table = LIMITS;
+    let mut i: usize = 0;
+    while i < 15 {
+        if is_outside(table[i], i + 1, row[i]) {
+            return refused(6, (i + 1) as u8);
+        }
+        i += 1;
+    }
+    refused(0, 0)
+}
+
+// 7 "a relation is broken (place: 1 to 5 as listed)"
+fn check_relations(row: [u16; 15]) -> Refusal
+    ensures { λ r. ⌜ r ≡ first 7 (relationFault row) 5 ⌝ }
+{
+    let mut i: u8 = 0;
+    while i < 5 {
+        if relation_fault(row, i + 1) {
+            return refused(7, i + 1);
+        }
+        i += 1;
+    }
+    refused(0, 0)
+}
+
+// 6, then 7.
+pub fn check(row: [u16; 15]) -> Refusal
+    ensures { λ r. ⌜ r ≡ checkTiming row ⌝ }
+{
+    let ranges = check_ranges(row);
+    if ranges.number != 0 {
+        return ranges;
+    }
+    check_relations(row)
+}
