@@ -112,7 +112,7 @@ pub extern "C" fn ryb_judge(
         return code(read.refusal);
     }
     let table = read.table;
-    let judged = judge::judge_accepted(table, all_starts(starts));
+    let judged = columns::judge_tasks(table, all_starts(starts));
     if judged.refusal.number != 0 {
         return code(judged.refusal);
     }

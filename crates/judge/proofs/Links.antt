@@ -4,7 +4,7 @@ use mathlib.Core.Bool.{true, false, cond}
 use mathlib.Core.List.{List}
 use Prim.Native.Nat.{ℕ, _≤_, _<_}
 use native.Mathlib.Omega.{arith}
-use borrow.Author.Tests.{eq-eqb, ne-eqb, lt-ltb, le-ltb, le-leb, lt-leb, ltb-false, not-false}
+use borrow.Author.Tests.{lt-ltb, le-ltb, le-leb, lt-leb, ltb-false, not-false}
 use Rattle.rules.specs.declared.Table.{Table}
 use Rattle.rules.specs.declared.Refusal.{Refusal}
 use Rattle.rules.specs.declared.Answer.{Answer}
@@ -20,15 +20,9 @@ use Rattle.rules.proofs.Starts.{judged-accepted}
 use Rattle.laws.specs.Idioms.{entry, Within}
 use Rattle.laws.proofs.Tests.{inside}
 use Rattle.climb.specs.declared.Climbed.{Climbed}
-use Rattle.rounds.specs.Numbered.{climbedFor, notJudged, noneJudged, firstLate, firstHigh, judgedTasks}
+use Rattle.rounds.specs.Lent.{noneJudged}
+use Rattle.columns.specs.Numbered.{climbedFor, notJudged}
 use Rattle.rules.specs.Chain.{accepted, refused, isAccepted, _orElse_, given}
-
--- a refusal that a call gave: its number is 0, or is not
-pub passes : {r s : Refusal} → r ≡ s → r .number ≡ 0 → isAccepted s ≡ true
-passes {r} e h = rw e at (eq-eqb (r .number) 0 h)
-
-pub refuses : {r s : Refusal} → r ≡ s → (r .number ≡ 0 → ⊥) → isAccepted s ≡ false
-refuses {r} e h = rw e at (ne-eqb (r .number) 0 h)
 
 -- ---- one task: 5 to 13
 
@@ -116,21 +110,10 @@ module _ (t : Table) (k start : ℕ) where
 -- ---- all tasks
 
 module _ (t : Table) (starts : List ℕ) where
-  all-is : checkAll t (entry 0 starts) ≡ checkJudged t orElse firstLate t starts orElse firstHigh t starts
-  unfolding checkAll firstLate firstHigh
-  all-is = refl
-
   all-refused : (r : Refusal) → isAccepted r ≡ false → checkAll t (entry 0 starts) ≡ r → noneJudged r ≡ judgeAll t starts
   unfolding judgeAll noneJudged
   all-refused r h e = rw (e, h)
 
   pub all-table : isAccepted (checkJudged t) ≡ false → noneJudged (checkJudged t) ≡ judgeAll t starts
-  all-table h = all-refused (checkJudged t) h (all-is ∙ simp h)
-
-  module _ (table : isAccepted (checkJudged t) ≡ true) where
-    pub all-late : isAccepted (firstLate t starts) ≡ false → noneJudged (firstLate t starts) ≡ judgeAll t starts
-    all-late h = all-refused (firstLate t starts) h (all-is ∙ simp (table, h))
-
-    pub all-tasks : isAccepted (firstLate t starts) ≡ true → judgedTasks t starts ≡ judgeAll t starts
-    unfolding judgedTasks judgeAll
-    all-tasks h = let e : checkAll t (entry 0 starts) ≡ firstHigh t starts = all-is ∙ simp (table, h) in rw e
+  unfolding checkAll
+  all-table h = all-refused (checkJudged t) h (simp h)

@@ -1,11 +1,9 @@
 // Judgement of one task and of all: the refusals in their order, then the rounds.
 ghost use mathlib.Core.Path.{_≡_};
-ghost use mathlib.Core.Bool.{true};
 ghost use Rattle.rules.specs.Judgement.{boundOf};
-ghost use Rattle.rules.specs.Refusals.{checkTable, checkJudged, checkStart};
+ghost use Rattle.rules.specs.Refusals.{checkJudged, checkStart};
 ghost use Rattle.rules.specs.Operations.{judgeOne, judgeAll};
-ghost use Rattle.rounds.specs.Numbered.{notJudged};
-ghost use Rattle.rules.specs.Chain.{isAccepted};
+ghost use Rattle.columns.specs.Numbered.{notJudged};
 use rules::AllJudged;
 use rules::Judged;
 use rules::Refusal;
@@ -58,7 +56,7 @@ pub fn judge_one(table: Table, k: u8, start: u64) -> Judged
     if refusal.number != 0 {
         return not_judged(refusal);
     }
-    let climbed = rounds::judge_task(table, k, start);
+    let climbed = columns::judge_task(table, k, start);
     if climbed.high {
         return not_judged(refused(14, k));
     }
@@ -69,18 +67,6 @@ pub fn judge_one(table: Table, k: u8, start: u64) -> Judged
     }
 }
 
-// Of all, for a table that is known to be accepted, as one that was read: 13 and 14, or the answers.
-pub fn judge_accepted(table: Table, starts: [u64; 32]) -> AllJudged
-    requires { ⌜ isAccepted (checkTable table) ≡ true ⌝ }
-    ensures { λ r. ⌜ r ≡ judgeAll table starts ⌝ }
-{
-    let late = rounds::late(table, starts);
-    if late.number != 0 {
-        return rounds::none_judged(late);
-    }
-    rounds::judge_tasks(table, starts)
-}
-
 // "or of all with 32 starts": refusals 5 to 11, 13 and 14, or the answers.
 pub fn judge_all(table: Table, starts: [u64; 32]) -> AllJudged
     ensures { λ r. ⌜ r ≡ judgeAll table starts ⌝ }
@@ -89,7 +75,7 @@ pub fn judge_all(table: Table, starts: [u64; 32]) -> AllJudged
     if refusal.number != 0 {
         return rounds::none_judged(refusal);
     }
-    judge_accepted(table, starts)
+    columns::judge_tasks(table, starts)
 }
 
 // Its bound, or 0 where it misses.

@@ -61,7 +61,7 @@ fn list_table(t: Table, out: &mut [u8]) -> usize
     ensures { λ r. ⌜ Given (tableText t (judgeAll t (replicate 32 0) .answers)) (now (out .entry)) r (now (out .exit)) ⌝ }
     ensures { λ _. ⌜ length (tableText t (judgeAll t (replicate 32 0) .answers)) ≤ 3266 ⌝ }
 {
-    let judged = judge::judge_accepted(t, [0u64; 32]);
+    let judged = columns::judge_tasks(t, [0u64; 32]);
     let answers = judged.answers;
     lines(t, answers, out)
 }

@@ -8,21 +8,20 @@ use Rattle.equation.proofs.Judge.{fresh-allowed}
 use Rattle.rules.specs.declared.Table.{Table}
 use Rattle.rules.specs.Judgement.{misses, judge}
 use Rattle.rules.specs.Order.{worsens}
-use Rattle.rules.specs.Refusals.{checkTable, lateStart, highStart}
-use Rattle.rules.specs.Operations.{answersFrom, fresh, olderBound}
+use Rattle.rules.specs.Refusals.{checkTable, lateStart, highStart, checkAll}
+use Rattle.rules.specs.Operations.{answersFrom, fresh, olderBound, judgeAll}
 use Rattle.rules.proofs.Accepted.{sound}
 use Rattle.rules.proofs.First.{first-none}
 use Rattle.laws.specs.Idioms.{upTo, entry}
 use Rattle.rules.proofs.Instance.{equation-of, lowest-fits}
 use Rattle.rules.specs.Chain.{accepted, isAccepted}
-use Rattle.rules.proofs.Starts.{allowed-passes}
+use Rattle.rules.proofs.Starts.{accepted-judged, allowed-passes}
 use Rattle.rules.proofs.LentStarts.{answers-same}
 use Rattle.rules.proofs.Points.{carried-judgeable}
 use Rattle.rules.proofs.Worsened.{worsened}
 use Rattle.laws.proofs.Runs.{length-map-from}
 use Rattle.laws.proofs.Filled.{filled-length}
 use Rattle.laws.proofs.Places.{place-of}
-use Rattle.rounds.specs.Numbered.{firstLate, firstHigh, judgedTasks}
 use Rattle.rejudge.specs.Carried.{startOf, olderStarts, AllAllowed}
 
 -- ---- where none is refused, all are answered
@@ -31,20 +30,18 @@ module _ (t : Table) (passed : isAccepted (checkTable t) ≡ true) (starts : Lis
   passes : (k : ℕ) → 1 ≤ k → k ≤ t .tasks → (lateStart t k (entry 0 starts k) ≡ false) × (highStart t k (entry 0 starts k) ≡ false)
   passes k low high = allowed-passes t k (entry 0 starts k) (lowest-fits t passed k low high) (all k low high)
 
-  none-late : firstLate t starts ≡ accepted
-  unfolding firstLate
-  none-late = first-none 13 (λ k. lateStart t k (entry 0 starts k)) (t .tasks) (λ k low high. passes k low high .0)
+  none-refused : checkAll t (entry 0 starts) ≡ accepted
+  unfolding checkAll
+  none-refused =
+      simp (
+        accepted-judged t passed,
+        first-none 13 (λ k. lateStart t k (entry 0 starts k)) (t .tasks) (λ k low high. passes k low high .0),
+        first-none 14 (λ k. highStart t k (entry 0 starts k)) (t .tasks) (λ k low high. passes k low high .1),
+      )
 
-  none-high : firstHigh t starts ≡ accepted
-  unfolding firstHigh
-  none-high = first-none 14 (λ k. highStart t k (entry 0 starts k)) (t .tasks) (λ k low high. passes k low high .1)
-
-  pub allowed-late : isAccepted (firstLate t starts) ≡ true
-  allowed-late = rw none-late
-
-  pub allowed-answers : judgedTasks t starts .answers ≡ answersFrom t (entry 0 starts)
-  unfolding judgedTasks
-  allowed-answers = rw none-high
+  pub allowed-answers : judgeAll t starts .answers ≡ answersFrom t (entry 0 starts)
+  unfolding judgeAll
+  allowed-answers = rw none-refused
 
 -- ---- fresh starts
 

@@ -17,7 +17,7 @@ fn answers(table: Table, starts: [u64; 32]) -> [Answer; 32]
     requires { ⌜ AllAllowed table starts ⌝ }
     ensures { λ r. ⌜ r ≡ answersFrom table (entry 0 starts) ⌝ }
 {
-    let judged = rounds::judge_tasks(table, starts);
+    let judged = columns::judge_tasks(table, starts);
     let all = judged.answers;
     all
 }

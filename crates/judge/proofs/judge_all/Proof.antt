@@ -2,8 +2,9 @@
 use borrow.Author.Needs.{needs}
 use mathlib.Core.Path.{_∙_, ap}
 use Rattle.rules.proofs.Starts.{judged-accepted}
-use Rattle.rounds.specs.Numbered.{noneJudged}
-use Rattle.judge.proofs.Links.{passes, refuses, all-table}
+use Rattle.rules.proofs.Chain.{passes, refuses}
+use Rattle.rounds.specs.Lent.{noneJudged}
+use Rattle.judge.proofs.Links.{all-table}
 use Rattle.judge.proofs.judge_all.Statement.{statement}
 use Rattle.judge.proofs.judge_all.Tie as tie
 
@@ -17,4 +18,4 @@ pub judge-all-spec : {M : Type 1} → statement M
 judge-all-spec =
     tie.close
     (tie.spec (λ c κs. search needs) (λ c κs. search needs) returns
-    (λ c κs. judged-accepted _ (passes (c .before .before .gate .ensures) (c .if1 .left))) (λ c. c .judge-accepted .ensures))
+    (λ c κs. judged-accepted _ (passes (c .before .before .gate .ensures) (c .if1 .left))) (λ c. c .judge-tasks .ensures))

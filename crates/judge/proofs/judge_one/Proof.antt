@@ -3,10 +3,11 @@ use borrow.Author.Needs.{needs}
 use mathlib.Core.Path.{_≡_, _∙_, ap}
 use mathlib.Core.Bool.{true}
 use Rattle.rules.specs.declared.Refusal.{Refusal}
-use Rattle.rounds.specs.Numbered.{notJudged}
+use Rattle.rules.proofs.Chain.{passes, refuses}
+use Rattle.columns.specs.Numbered.{notJudged}
 use Rattle.rules.specs.Chain.{isAccepted}
 use Rattle.rules.specs.Refusals.{checkStart}
-use Rattle.judge.proofs.Links.{passes, refuses, start-sound, start-within, start-fits, one-start, one-high, one-answer}
+use Rattle.judge.proofs.Links.{start-sound, start-within, start-fits, one-start, one-high, one-answer}
 use Rattle.judge.proofs.judge_one.Statement.{statement}
 use Rattle.judge.proofs.judge_one.Tie as tie
 

@@ -1,6 +1,6 @@
 -- A refused judgement of one. Assumes nothing.
 use borrow.Author.Needs.{needs}
-use Rattle.rounds.specs.Numbered.{notJudged}
+use Rattle.columns.specs.Numbered.{notJudged}
 use Rattle.judge.proofs.not_judged.Statement.{statement}
 use Rattle.judge.proofs.not_judged.Tie as tie
 
