@@ -1,15 +1,17 @@
 -- The part that a record is, and one figure more and one task more of a file, as the loops that read them store them. Assumes nothing.
-use mathlib.Core.Path.{_≡_}
+use mathlib.Core.Path.{_≡_, sym}
 use mathlib.Core.List.{List}
 use Prim.Native.Nat.{ℕ, _+_, _*_, _-_, _<_, _≤_}
 use native.Mathlib.Nat.{add-sub-cancel-left}
+use native.Mathlib.Omega.{arith}
 use lib.ListN.{length, set, take, drop}
 use lib.Seq.{sets}
 use Rattle.rules.specs.declared.Task.{Task}
-use Rattle.rules.specs.Tasks.{noTask}
-use Rattle.rules.specs.File.{recordSize, recordAt, recordIn, recordTask, coresIn, formIn}
+use Rattle.rules.specs.Tasks.{noTask, taskOf}
+use Rattle.rules.specs.File.{recordSize, recordAt, recordIn, recordTask, coresIn, tasksIn, formIn, decode}
 use Rattle.laws.specs.Idioms.{number, part, filled}
 use Rattle.laws.proofs.Fill.{fill-step}
+use Rattle.laws.proofs.Places.{place-of}
 use Rattle.laws.proofs.Parts.{part-length}
 use Rattle.laws.proofs.Runs.{map-below-next, map-upTo-next, length-map-from, sets-next}
 use Rattle.whole.proofs.Places.{record-limit}
@@ -32,6 +34,11 @@ module _ (s : List ℕ) where
   pub record-long : (k : ℕ) → recordAt (formIn s) (coresIn s) k + recordSize (formIn s) ≤ length s → 29 ≤ length (recordIn s k)
   unfolding recordIn
   record-long k h = rw (part-length s (recordAt (formIn s) (coresIn s) k) (recordSize (formIn s)) h) (record-limit (formIn s) .0)
+
+  -- a record is a task of the table
+  pub task-is : (i : ℕ) → i < tasksIn s → recordTask (recordIn s (i + 1)) ≡ taskOf (decode s) (i + 1)
+  unfolding decode
+  task-is i here = sym (place-of noTask (λ k. recordTask (recordIn s k)) 32 (tasksIn s) (i + 1) (omega arith) (omega arith))
 
   pub task-next : (i : ℕ) → i < 32 → set (filled 32 noTask (tasksTo s i)) i (recordTask (recordIn s (i + 1))) ≡ filled 32 noTask (tasksTo s (i + 1))
   task-next i h =

@@ -1,11 +1,11 @@
 // Table files: reader and view. What the bytes mean is in the rules; here is how they are read. Where they stand is `whole`'s.
 
 ghost use mathlib.Core.Path.{_≡_};
-ghost use Prim.Native.Nat.{_+_, _*_, _≤_};
+ghost use Prim.Native.Nat.{_+_, _*_, _≤_, _<_};
 ghost use lib.ListN.{length};
 ghost use lib.Seq.{sets};
 ghost use Rattle.laws.specs.Idioms.{filled};
-ghost use Rattle.rules.specs.Tasks.{noTask};
+ghost use Rattle.rules.specs.Tasks.{noTask, taskOf};
 ghost use Rattle.rules.specs.File.{recordSize, recordAt, recordTask, recordIn, coresIn, tasksIn, formIn, decode};
 ghost use Rattle.rules.specs.Refusals.{checkBoard, checkTasks};
 ghost use Rattle.rules.specs.Operations.{checkFile, reading, checkView, viewing};
@@ -48,6 +48,15 @@ fn task_in(part: &[u8]) -> Task
     }
 }
 
+// The task in place i.
+pub fn task_at(file: &[u8], i: usize) -> Task
+    requires { ⌜ i < tasksIn (now file) ⌝ }
+    requires { ⌜ Sized (now file) ⌝ }
+    ensures { λ r. ⌜ r ≡ taskOf (decode (now (file .entry))) (i + 1) ⌝ }
+{
+    task_in(record_in(file, i))
+}
+
 // The n figures of two bytes from a place on.
 fn figures(file: &[u8], at: usize, n: usize, into: &mut [u16])
     requires { ⌜ n ≤ length (now into) ⌝ }
@@ -62,24 +71,25 @@ fn figures(file: &[u8], at: usize, n: usize, into: &mut [u16])
     }
 }
 
-// The first n tasks, and no task in the other places.
-fn tasks(file: &[u8], n: usize) -> [Task; 32]
-    requires { ⌜ n ≤ 32 ⌝ }
-    requires { ⌜ recordAt (formIn (now file)) (coresIn (now file)) (n + 1) ≤ length (now file) ⌝ }
-    ensures { λ r. ⌜ r ≡ filled 32 noTask (tasksTo (now (file .entry)) n) ⌝ }
+// The tasks, and no task in the other places.
+fn tasks(file: &[u8]) -> [Task; 32]
+    requires { ⌜ tasksIn (now file) ≤ 32 ⌝ }
+    requires { ⌜ Sized (now file) ⌝ }
+    ensures { λ r. ⌜ r ≡ filled 32 noTask (tasksTo (now (file .entry)) (tasksIn (now (file .entry)))) ⌝ }
 {
+    let n = whole::size(file[2]);
     let none = tasks::no_task();
     let mut all = [none; 32];
     let mut i: usize = 0;
     while i < n {
-        let task = task_in(record_in(file, i));
+        let task = task_at(file, i);
         all[i] = task;
         i += 1;
     }
     all
 }
 
-fn row_in(file: &[u8]) -> [u16; 15]
+pub fn row_in(file: &[u8]) -> [u16; 15]
     requires { ⌜ 34 ≤ length (now file) ⌝ }
     ensures { λ r. ⌜ r ≡ figuresIn (now (file .entry)) 4 15 ⌝ }
 {
@@ -89,7 +99,7 @@ fn row_in(file: &[u8]) -> [u16; 15]
 }
 
 // The sets of a whole file's cores, which have room in a table.
-fn sets_in(file: &[u8]) -> [u16; 8]
+pub fn sets_in(file: &[u8]) -> [u16; 8]
     requires { ⌜ coresIn (now file) ≤ 8 ⌝ }
     requires { ⌜ Sized (now file) ⌝ }
     ensures { λ r. ⌜ r ≡ setsOf (now (file .entry)) ⌝ }
@@ -112,7 +122,7 @@ fn table_in(file: &[u8]) -> Table
 {
     let timing = row_in(file);
     let sets = sets_in(file);
-    let task = tasks(file, whole::size(file[2]));
+    let task = tasks(file);
     Table {
         cores: file[0],
         partitions: file[1],
@@ -146,7 +156,7 @@ fn records_in(file: &[u8]) -> Refusal
     let mut seen = tasks::no_faults();
     let mut i: u8 = 0;
     while i < n {
-        let task = task_in(record_in(file, whole::size(i)));
+        let task = task_at(file, whole::size(i));
         seen = tasks::noted(seen, i + 1, cores, task);
         i += 1;
     }

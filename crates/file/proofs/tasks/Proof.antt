@@ -1,15 +1,13 @@
 -- The tasks of a file, place by place. Assumes nothing.
-use Prim.Native.Nat.{_+_, _-_, _≤_}
+use Prim.Native.Nat.{_+_, _-_, _≤_, _<_}
 use mathlib.Core.Path.{_≡_}
 use native.Mathlib.Omega.{arith}
 use borrow.Author.Needs.{needs}
-use lib.ListN.{length}
 use Rattle.laws.specs.Idioms.{from, filled}
 use Rattle.rules.specs.Tasks.{noTask}
-use Rattle.rules.specs.File.{formIn, coresIn, recordAt, recordSize}
-use Rattle.whole.proofs.Places.{record-within}
+use Rattle.rules.specs.File.{tasksIn}
 use Rattle.file.specs.Places.{tasksTo}
-use Rattle.file.proofs.Steps.{record-long, task-next}
+use Rattle.file.proofs.Steps.{task-is, task-next}
 use Rattle.file.proofs.tasks.Statement.{statement}
 use Rattle.file.proofs.tasks.Tie as tie
 
@@ -23,23 +21,27 @@ loop-holds : tie.Need-loop-holds Inv-loop μ-loop
 unfolding from
 loop-holds c = (search needs, rw (c .no-task .ensures))
 
--- the record lies within the file
-ends : (c : tie.In-loop Inv-loop μ-loop) → let s = c .before .before .before .before .args .file .now in
-    recordAt (formIn s) (coresIn s) (c .before .loop .i + 1) + recordSize (formIn s) ≤ length s
-ends c =
-    let l = c .before in
-    let a = l .before .before .before .args in
-    omega (arith, record-within (formIn (a .file .now)) (coresIn (a .file .now)) (l .loop .i) (a .n) (omega arith))
+in-file : (c : tie.In-loop Inv-loop μ-loop) → c .before .loop .i < tasksIn (c .before .before .before .before .before .before .args .file .now)
+in-file c = omega (arith, c .loop-test .taken, c .before .before .before .size .ensures .0)
+
+few : (c : tie.In-loop Inv-loop μ-loop) → c .before .loop .i < 32
+few c = omega (arith, in-file c, c .before .before .before .before .before .before .pre .0)
 
 loop-again : tie.Need-loop-again Inv-loop μ-loop
 loop-again c =
-    let l = c .before .before .before .loop in
-    (search needs, rw (l .inv .1, c .task-in .ensures, c .before .record-in .ensures) (task-next _ (l .i) (omega arith)))
+    let l = c .before .before .loop in
+    let s = c .before .before .before .before .before .before .before .args .file .now in
+    let here = in-file (c .before) in
+    (search needs, rw (l .inv .1, c .task-at .ensures, ← task-is s (l .i) here) (task-next s (l .i) (few (c .before))))
+
+returns : tie.Need-returns Inv-loop μ-loop
+returns c =
+    let e : c .before .loop .i ≡ tasksIn (c .before .before .before .before .before .before .args .file .now) = omega (arith, c .before .before .before .size .ensures .0) in
+    rw e at (c .before .loop .inv .1)
 
 pub tasks-spec : {M : Type 1} → statement M
 tasks-spec =
     tie.close
-    (tie.spec Inv-loop μ-loop (λ c κs. search needs) loop-holds (λ c κs. omega (arith, ends c))
-    (λ c κs. rw (c .record-in .ensures) (record-long _ _ (ends (c .before)))) (λ c. search needs) (λ c. search needs) (λ c. search needs)
-    (λ c. search needs) loop-again
-    (λ c. let e : c .before .loop .i ≡ c .before .before .before .before .args .n = omega arith in rw e at (c .before .loop .inv .1)))
+    (tie.spec Inv-loop μ-loop (λ c. search needs) (λ c κs. search needs) (λ c κs. search needs) loop-holds (λ c κs. (in-file c, c .before .before .before .before .before .before .pre .1))
+    (λ c. omega (arith, few (c .before))) (λ c. few (c .before)) (λ c. omega (arith, few (c .before)))
+    (λ c. search needs) loop-again returns)
