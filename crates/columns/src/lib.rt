@@ -43,7 +43,7 @@ fn columns(
     costs: &mut [u64; 33],
     asks: &mut [u64; 33],
 )
-    requires { ⌜ Sound table × Low (now order) ⌝ }
+    requires { ⌜ Sound table × Low (table .tasks) (now order) ⌝ }
     requires { ⌜ (length (now spans) ≡ 33) × (length (now costs) ≡ 33) × (length (now asks) ≡ 33) ⌝ }
     ensures { λ _. ⌜ Columns (table .task) (table .tasks) (now (order .entry)) (now (spans .exit)) (now (costs .exit)) (now (asks .exit)) ⌝ }
 {

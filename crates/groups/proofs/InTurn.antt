@@ -13,12 +13,12 @@ use Rattle.groups.proofs.ByCore.{byCore, by-core-none, by-core-next, by
 pub record InTurn (core : List ℕ) (n q m : ℕ) (starts order : List ℕ) : Type 0 where
   pub count : m ≡ length (byCore core n q)
   pub is : take m order ≡ byCore core n q
-  pub low : Low order
+  pub low : Low n order
   pub begins : (j : ℕ) → j ≤ q → getD starts j 0 ≡ length (byCore core n j)
   pub long : length starts ≡ 9
 
 module _ (core : List ℕ) (n : ℕ) where
-  pub turn-none : {order : List ℕ} → Low order → InTurn core n 0 0 (replicate 9 0) order
+  pub turn-none : {order : List ℕ} → Low n order → InTurn core n 0 0 (replicate 9 0) order
   turn-none low =
       record {
         count = rw (by-core-none core n);
@@ -32,7 +32,7 @@ module _ (core : List ℕ) (n : ℕ) where
   pub turn-room : {q m : ℕ} {starts order : List ℕ} → InTurn core n q m starts order → m + length (placesOn core (q + 1) n) ≤ n
   turn-room {q} so = omega (arith, so .count, by-core-long core n q, by-core-few core n (q + 1))
 
-  pub turn-next : {q m k : ℕ} {starts order more : List ℕ} → q < 8 → InTurn core n q m starts order → Joined (placesOn core (q + 1) n) m k order more
+  pub turn-next : {q m k : ℕ} {starts order more : List ℕ} → q < 8 → InTurn core n q m starts order → Joined n (placesOn core (q + 1) n) m k order more
       → InTurn core n (q + 1) k (set starts (q + 1) k) more
   turn-next {q} {m} {k} {starts} few so new =
       record {

@@ -21,20 +21,20 @@ one-more true x = refl
 one-more false x = refl
 
 -- no place written yet
-pub low-zeros : Low (replicate 33 0)
-low-zeros = record { each = λ k. zeros 33 k; long = refl }
+pub low-zeros : {n : ℕ} → 1 ≤ n → Low n (replicate 33 0)
+low-zeros {n} some = record { each = zeros 33; long = refl }
   where
-    zeros : (n k : ℕ) → getD (replicate n 0) k 0 < 32
+    zeros : (m k : ℕ) → getD (replicate m 0) k 0 < n
     zeros zero k = omega arith
-    zeros (suc n) zero = omega arith
-    zeros (suc n) (suc k) = zeros n k
+    zeros (suc m) zero = omega arith
+    zeros (suc m) (suc k) = zeros m k
 
-low-set : {order : List ℕ} → Low order → (n : ℕ) {i : ℕ} → n < 33 → i < 32 → Low (set order n i)
-low-set {order} low n {i} fits small = record { each = λ k. go k (ℕ-discrete k n); long = rw length-set (low .long) }
+low-set : {n : ℕ} {order : List ℕ} → Low n order → (e : ℕ) {i : ℕ} → e < 33 → i < n → Low n (set order e i)
+low-set {n} {order} low e {i} fits small = record { each = λ k. go k (ℕ-discrete k e); long = rw length-set (low .long) }
   where
-    go : (k : ℕ) → Dec (k ≡ n) → getD (set order n i) k 0 < 32
-    go k (yes same) = rw (same, getD-set-same order n i 0 (omega (arith, low .long))) small
-    go k (no other) = rw (getD-set-other order n k i 0 other) (low .each k)
+    go : (k : ℕ) → Dec (k ≡ e) → getD (set order e i) k 0 < n
+    go k (yes same) = rw (same, getD-set-same order e i 0 (omega (arith, low .long))) small
+    go k (no other) = rw (getD-set-other order e k i 0 other) (low .each k)
 
 module _ (core : List ℕ) (q : ℕ) where
   pub places-none : placesOn core q 0 ≡ []
@@ -88,19 +88,19 @@ module _ (core : List ℕ) (q : ℕ) where
         ∙ rw own-next (rw (add-zero (length (placesOn core q i))) at (getD-append-add (placesOn core q i) (i ∷ []) 0 0))
 
   -- one task more: its place is written after the others, and counts where it is on the core
-  module _ {m : ℕ} {old : List ℕ} where
-    pub joined-none : Low old → Joined (placesOn core q 0) m m old old
+  module _ {n m : ℕ} {old : List ℕ} where
+    pub joined-none : Low n old → Joined n (placesOn core q 0) m m old old
     joined-none low = record { count = rw places-none (omega arith); is = rw (places-none, append-nil); low = low }
 
-    pub joined-next : (i : ℕ) {n k : ℕ} {out : List ℕ} → i < 32 → n < 33 → Joined (placesOn core q i) m n old out → OneIf (eqb (getD core i 0) q) k
-        → Joined (placesOn core q (i + 1)) m (n + k) old (set out n i)
-    joined-next i {n} {k} {out} small fits so one =
+    pub joined-next : (i : ℕ) {e k : ℕ} {out : List ℕ} → i < n → e < 33 → Joined n (placesOn core q i) m e old out → OneIf (eqb (getD core i 0) q) k
+        → Joined n (placesOn core q (i + 1)) m (e + k) old (set out e i)
+    joined-next i {e} {k} {out} small fits so one =
         record {
           count = omega (arith, count-next i, so .count, one .is);
           is = rw (places-next i, ← append-assoc (take m old) (placesOn core q i) _, ← so .is, one .is) (go (eqb (getD core i 0) q));
-          low = low-set (so .low) n fits small;
+          low = low-set (so .low) e fits small;
         }
       where
-        go : (b : Bool) → take (n + cond b 1 0) (set out n i) ≡ take n out ++ cond b (i ∷ []) []
-        go true = rw add-one (take-suc-set out n i (omega (arith, so .low .long)))
-        go false = rw (add-zero, append-nil) (take-set-le n out n i (le-refl n))
+        go : (b : Bool) → take (e + cond b 1 0) (set out e i) ≡ take e out ++ cond b (i ∷ []) []
+        go true = rw add-one (take-suc-set out e i (omega (arith, so .low .long)))
+        go false = rw (add-zero, append-nil) (take-set-le e out e i (le-refl e))

@@ -16,16 +16,16 @@ pub record OneIf (passes : Bool) (r : ℕ) : Type 0 where
 unfoldable pub placesOn : List ℕ → ℕ → ℕ → List ℕ
 placesOn core q n = those (λ i. eqb (getD core i 0) q) (below n)
 
--- an array of places of tasks
-pub record Low (order : List ℕ) : Type 0 where
-  pub each : (k : ℕ) → getD order k 0 < 32
+-- an array of places of n tasks
+pub record Low (n : ℕ) (order : List ℕ) : Type 0 where
+  pub each : (k : ℕ) → getD order k 0 < n
   pub long : length order ≡ 33
 
--- n places of it, of which the first m were there, and after them some more
-pub record Joined (more : List ℕ) (m n : ℕ) (old new : List ℕ) : Type 0 where
-  pub count : n ≡ m + length more
-  pub is : take n new ≡ take m old ++ more
-  pub low : Low new
+-- e places of it, of which the first m were there, and after them some more
+pub record Joined (n : ℕ) (more : List ℕ) (m e : ℕ) (old new : List ℕ) : Type 0 where
+  pub count : e ≡ m + length more
+  pub is : take e new ≡ take m old ++ more
+  pub low : Low n new
 
 -- the tasks of the core in place q, which has number q + 1, stand at starts[q] to starts[q + 1]
 pub record OrderedAt (n : ℕ) (core starts order : List ℕ) (q : ℕ) : Type 0 where
@@ -35,5 +35,5 @@ pub record OrderedAt (n : ℕ) (core starts order : List ℕ) (q : ℕ) : Type 0
 
 pub record Ordered (cores n : ℕ) (core starts order : List ℕ) : Type 0 where
   pub long : length starts ≡ 9
-  pub low : Low order
+  pub low : Low n order
   pub each : (q : ℕ) → q < cores → OrderedAt n core starts order q

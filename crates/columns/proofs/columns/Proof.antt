@@ -28,7 +28,7 @@ returns c = let e : c .before .loop .k ≡ c .before .before .args .t1 .tasks = 
 
 -- the place of the task that is next
 there : (c : tie.After-at Inv-loop μ-loop) → getD (c .before .before .before .args .order .now) (c .before .before .loop .k) 0 < 32
-there c = c .before .before .before .pre .0 .1 .each (c .before .before .loop .k)
+there c = let s = c .before .before .before in omega (arith, s .pre .0 .1 .each (c .before .before .loop .k), s .pre .0 .0 .tasks-in .high)
 
 pub columns-spec : {M : Type 1} → statement M
 columns-spec =

@@ -8,7 +8,12 @@ grouped-requires : tie.Need-grouped-requires
 grouped-requires c κs =
     let board = c .before .before .priced .ensures in
     let s = c .before .before .before .before .before .before .pre .0 .0 in
-    ((rw board (s .tasks-in .high), rw board (s .cores-in .high)), low-zeros)
+    ((rw board (s .tasks-in .high), rw board (s .cores-in .high)), low-zeros (rw board (s .tasks-in .low)))
+
+columns-requires : tie.Need-columns-requires
+columns-requires c κs =
+    let s = c .before .before .before .before .before .before .before .before .before .before .before in
+    ((s .pre .0 .0, rw (c .before .before .before .before .before .before .before .priced .ensures) at (c .before .before .before .before .grouped .ensures .low)), s .pre .1)
 
 returns : tie.Need-returns
 returns c =
@@ -22,4 +27,4 @@ returns c =
     }
 
 pub laid-spec : {M : Type 1} → statement M
-laid-spec = tie.close (tie.spec (λ c κs. search needs) (λ c κs. search needs) grouped-requires (λ c κs. search needs) returns)
+laid-spec = tie.close (tie.spec (λ c κs. search needs) (λ c κs. search needs) grouped-requires columns-requires returns)

@@ -9,7 +9,7 @@ use Rattle.groups.proofs.group.Statement.{statement}
 use Rattle.groups.proofs.group.Tie as tie
 
 abbrev Inv-loop : tie.InvT-loop
-Inv-loop n q m core order₀ at₀ i₀ order at i = (i ≤ n) × (at ≤ 32) × Joined (placesOn core q i) m at order₀ order
+Inv-loop n q m core order₀ at₀ i₀ order at i = (i ≤ n) × (at ≤ 32) × Joined n (placesOn core q i) m at order₀ order
 
 abbrev μ-loop : tie.MeasureT-loop
 μ-loop n q m core order₀ at₀ i₀ order at i = n - i

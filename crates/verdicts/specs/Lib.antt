@@ -1,0 +1,2 @@
+-- What the contracts of judging a file cite beside the rules.
+pub mod Judged
