@@ -1,18 +1,21 @@
 -- The three ways in which a file's judgement ends: the file is refused, or a start is, or every task has its answer. Assumes nothing.
 use mathlib.Core.Path.{_≡_, refl}
-use mathlib.Core.Bool.{true, false}
+use mathlib.Core.Bool.{Bool, true, false}
 use mathlib.Core.List.{List}
 use Prim.Native.Nat.{ℕ, _≤_}
 use lib.ListN.{take}
-use borrow.Author.Tests.{eq-eqb, ne-eqb}
 use Rattle.laws.specs.Idioms.{entry, filled}
 use Rattle.rules.specs.Judgement.{judge, misses}
 use Rattle.rules.specs.Chain.{isAccepted}
 use Rattle.rules.specs.File.{tasksIn, decode}
-use Rattle.rules.specs.Operations.{checkFile, reading, answersFrom, judgeAll}
+use Rattle.rules.specs.Refusals.{checkAll}
+use Rattle.rules.specs.declared.AllJudged.{AllJudged}
+use Rattle.rules.specs.Operations.{checkFile, answersFrom, judgeAll}
+use Rattle.rounds.specs.Lent.{noneJudged}
+use Rattle.verdicts.specs.Judged.{judgedFile}
 use Rattle.rules.proofs.Accepted.{sound}
-use Rattle.rules.proofs.Reading.{decoded-accepted, read-table}
-use Rattle.rules.proofs.Chain.{first-refuses, second-decides}
+use Rattle.rules.proofs.Reading.{decoded-accepted}
+use Rattle.rules.proofs.Chain.{passes, refuses, both-accepted}
 use Rattle.capi.specs.Codes.{codeOf}
 use Rattle.capi.specs.Columns.{checkJudging, answersOf, columnAfter, Columns, JudgedFile}
 use Rattle.laws.proofs.Filled.{take-filled}
@@ -21,18 +24,44 @@ use Rattle.rules.proofs.LentStarts.{lent-starts}
 -- ---- by what a refusal is decided, and which answers there are
 
 module _ (s starts : List ℕ) where
-  by-file : isAccepted (checkFile s) ≡ false → checkJudging s starts ≡ checkFile s
-  unfolding checkJudging
-  by-file e = first-refuses (checkFile s) _ e
+  -- the starts as the rounds get them
+  abbrev pub lent : List ℕ
+  lent = filled 32 0 (take 32 starts)
 
-  by-starts : isAccepted (checkFile s) ≡ true → checkJudging s starts ≡ judgeAll (decode s) starts .refusal
-  unfolding checkJudging judgeAll
-  by-starts e = second-decides (checkFile s) _ e
+  accepted-file : isAccepted (checkJudging s starts) ≡ true → isAccepted (checkFile s) ≡ true
+  unfolding checkJudging
+  accepted-file e = both-accepted (checkFile s) (checkAll (decode s) (entry 0 starts)) e .0
+
+  pub few-tasks : isAccepted (checkFile s) ≡ true → tasksIn s ≤ 32
+  unfolding decode
+  few-tasks e = sound (decode s) (decoded-accepted s e) .tasks-in .high
+
+  judged-as : isAccepted (checkFile s) ≡ true → judgedFile s lent ≡ judgeAll (decode s) starts
+  unfolding judgedFile decode
+  judged-as e = rw e (lent-starts (decode s) starts (few-tasks e))
+
+  refusal-by : (b : Bool) → isAccepted (checkFile s) ≡ b → judgedFile s lent .refusal ≡ checkJudging s starts
+  unfolding judgedFile checkJudging judgeAll noneJudged
+  refusal-by true e = rw (judged-as e, e)
+  refusal-by false e = rw e
+
+  pub refusal-is : judgedFile s lent .refusal ≡ checkJudging s starts
+  refusal-is = refusal-by (isAccepted (checkFile s)) refl
 
   -- the places after the tasks hold no answer
-  answers-all : isAccepted (judgeAll (decode s) starts .refusal) ≡ true → take (tasksIn s) (judgeAll (decode s) starts .answers) ≡ answersOf s starts
-  unfolding judgeAll answersFrom answersOf decode
-  answers-all e = rw e (take-filled 32 (misses 0) (λ k. judge (decode s) k (entry 0 starts k)) 1 (tasksIn s))
+  pub answers-all : isAccepted (checkJudging s starts) ≡ true → take (tasksIn s) (judgedFile s lent .answers) ≡ answersOf s starts
+  unfolding judgeAll answersFrom answersOf decode checkJudging
+  answers-all e =
+      let both = both-accepted (checkFile s) (checkAll (decode s) (entry 0 starts)) e in
+      rw (judged-as (both .0), both .1) (take-filled 32 (misses 0) (λ k. judge (decode s) k (entry 0 starts k)) 1 (tasksIn s))
+
+  -- what a call gave
+  module _ {r : AllJudged} (is : r ≡ judgedFile s lent) where
+    by-result : r .refusal ≡ checkJudging s starts
+    by-result = rw is refusal-is
+
+    pub judging-accepted : r .refusal .number ≡ 0 → isAccepted (checkFile s) ≡ true
+    judging-accepted passed = accepted-file (passes by-result passed)
 
 -- ---- the outputs afterwards, and what is returned
 
@@ -51,31 +80,12 @@ module _ (s starts : List ℕ) {bounds rounds by : List ℕ} where
     by-are = rw e (given .by-are);
   }
 
-  pub file-refused : (checkFile s .number ≡ 0 → ⊥) → JudgedFile s starts bounds rounds by (codeOf (checkFile s)) bounds rounds by
-  file-refused refused =
-      let is : checkJudging s starts ≡ checkFile s = by-file s starts (ne-eqb _ _ refused) in
-      rw is at (refused-leaves (rw is (ne-eqb _ _ refused)))
+  module _ {r : AllJudged} (is : r ≡ judgedFile s (lent s starts)) where
+    pub judging-refused : (r .refusal .number ≡ 0 → ⊥) → JudgedFile s starts bounds rounds by (codeOf (r .refusal)) bounds rounds by
+    judging-refused refused = rw (by-result s starts is) (refused-leaves (refuses (by-result s starts is) refused))
 
-  module _ (passes : checkFile s .number ≡ 0) where
-    pub start-refused : (judgeAll (decode s) starts .refusal .number ≡ 0 → ⊥)
-        → JudgedFile s starts bounds rounds by (codeOf (judgeAll (decode s) starts .refusal)) bounds rounds by
-    start-refused refused =
-        let is = by-starts s starts (eq-eqb _ _ passes) in
-        rw is at (refused-leaves (rw is (ne-eqb _ _ refused)))
-
-    pub all-judged : {bounds′ rounds′ by′ : List ℕ} → judgeAll (decode s) starts .refusal .number ≡ 0
-        → Columns (take (tasksIn s) (judgeAll (decode s) starts .answers)) bounds rounds by bounds′ rounds′ by′
+    pub all-judged : {bounds′ rounds′ by′ : List ℕ} → r .refusal .number ≡ 0 → Columns (take (tasksIn s) (r .answers)) bounds rounds by bounds′ rounds′ by′
         → JudgedFile s starts bounds rounds by 0 bounds′ rounds′ by′
-    all-judged accepted given =
-        accepted-gives (rw (by-starts s starts (eq-eqb _ _ passes)) (eq-eqb _ _ accepted)) (rw (answers-all s starts (eq-eqb _ _ accepted)) at given)
-
--- ---- what an accepted file gives
-
-module _ (s : List ℕ) (passes : checkFile s .number ≡ 0) where
-  pub few-tasks : tasksIn s ≤ 32
-  unfolding decode
-  few-tasks = sound (decode s) (decoded-accepted s (eq-eqb _ _ passes)) .tasks-in .high
-
-  pub lent-judged : (starts : List ℕ) → judgeAll (reading s .table) (filled 32 0 (take 32 starts)) ≡ judgeAll (decode s) starts
-  unfolding decode
-  lent-judged starts = rw (read-table s (eq-eqb _ _ passes)) (lent-starts (decode s) starts few-tasks)
+    all-judged passed given =
+        let accepted = passes (by-result s starts is) passed in
+        accepted-gives accepted (rw (is, answers-all s starts accepted) at given)

@@ -107,17 +107,12 @@ pub extern "C" fn ryb_judge(
 ) -> u16
     ensures { λ r. ⌜ JudgedFile (now (file .entry)) (now (starts .entry)) (now (bounds .entry)) (now (rounds .entry)) (now (by .entry)) r (now (bounds .exit)) (now (rounds .exit)) (now (by .exit)) ⌝ }
 {
-    let read = file::read(file);
-    if read.refusal.number != 0 {
-        return code(read.refusal);
-    }
-    let table = read.table;
-    let judged = columns::judge_tasks(table, all_starts(starts));
+    let judged = verdicts::judge(file, all_starts(starts));
     if judged.refusal.number != 0 {
         return code(judged.refusal);
     }
     let answers = judged.answers;
-    store_answers(answers, table.tasks as usize, bounds, rounds, by);
+    store_answers(answers, whole::size(file[2]), bounds, rounds, by);
     0
 }
 
