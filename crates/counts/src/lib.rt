@@ -36,15 +36,19 @@ pub fn inverses(n: usize, periods: &[u64; 33]) -> [u64; 33]
     out
 }
 
-// "t/T rounded up", guessed by a multiplication and tested; divided where the guess is wrong. The test is one: a difference that would be below 0,
-// because t is 0 or the guess is too large, wraps and is no less than any period.
+// "t/T rounded up": 1 where t is within one period; else guessed by a multiplication and tested; divided where the guess is wrong. A difference that
+// would be below 0, because t is 0 or the guess is too large, wraps and is no less than any period.
 fn up(t: u64, period: u64, inv: u64) -> u64
     requires { ⌜ (t ≤ 10 ^ 12) × Within (10 ^ 8) (10 ^ 12) period ⌝ }
     requires { ⌜ inv ≤ 2882303762 ⌝ }
     ensures { λ r. ⌜ Counted t period r ⌝ }
 {
+    let last = std::num::wrapping_sub_u64(t, 1);
+    if last < period {
+        return 1;
+    }
     let guess = ((t >> 8) * inv) >> 50;
-    let over = std::num::wrapping_sub_u64(std::num::wrapping_sub_u64(t, 1), guess * period);
+    let over = std::num::wrapping_sub_u64(last, guess * period);
     if over < period {
         return guess + 1;
     }
