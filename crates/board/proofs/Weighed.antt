@@ -21,7 +21,7 @@ use Rattle.rules.proofs.Weights.{share-comm, by-weights}
 use Rattle.delays.specs.declared.Figures.{Figures}
 use Rattle.delays.specs.Figures.{figuresOf, FiguresBounded}
 use Rattle.delays.proofs.Bounds.{bounded}
-use Rattle.board.specs.Masks.{asBit, mask, farMasks}
+use Rattle.board.specs.Masks.{asBit, mask, sideMasks}
 use Rattle.board.specs.Costs.{Shows, costsOf}
 use Rattle.board.specs.declared.CoreCosts.{CoreCosts}
 use Rattle.laws.specs.Idioms.{sumOver, those, upTo, entry, isEmpty, from, filled}
@@ -87,7 +87,7 @@ module _ (t : Table) (p q : ℕ) where
 
 module _ {p nears : ℕ} {fars : List ℕ} {f : Figures} {t : Table} (s : Shows p nears fars f t) where
   fars-at : (q : ℕ) → 1 ≤ q → q ≤ t .cores → entry 0 fars q ≡ mask (isFar t q) (t .cores)
-  unfolding farMasks
+  unfolding sideMasks
   fars-at q low high = rw (s .far-are) (place-of 0 (λ r. mask (isFar t r) (t .cores)) 8 (t .cores) q low high)
 
   crossing-is : f .crossing .0 ≡ crossing t .0

@@ -2,6 +2,7 @@
 -- each core. Assumes nothing.
 use Prim.Native.Nat.{ℕ}
 use mathlib.Core.Path.{_≡_}
+use mathlib.Core.Bool.{false}
 use mathlib.Core.List.{List, map}
 use lib.ListN.{replicate}
 use Rattle.rules.specs.declared.Table.{Table}
@@ -11,7 +12,7 @@ use Rattle.rules.specs.Board.{pricesOf}
 use Rattle.delays.specs.declared.Figures.{Figures}
 use Rattle.delays.specs.Figures.{figuresOf}
 use Rattle.board.specs.declared.CoreCosts.{CoreCosts}
-use Rattle.board.specs.Masks.{mask, farMasks}
+use Rattle.board.specs.Masks.{mask, sideMasks}
 
 unfoldable pub costsOf : Table → ℕ → CoreCosts
 costsOf t p = record { request = pricesOf t p .perRequest; weight = filled 8 0 (map (pricesOf t p .perCore) (upTo (t .cores))) }
@@ -26,5 +27,5 @@ allCosts t = filled 8 noCosts (map (costsOf t) (upTo (t .cores)))
 -- a table whose cores near p, whose cores far from each, and whose figures are these
 pub record Shows (p near : ℕ) (far : List ℕ) (f : Figures) (t : Table) : Type 0 where
   pub near-is : near ≡ mask (isNear t p) (t .cores)
-  pub far-are : far ≡ farMasks (t .cores) (t .sets)
+  pub far-are : far ≡ sideMasks false (t .cores) (t .sets)
   pub figures-are : f ≡ figuresOf (t .timing)

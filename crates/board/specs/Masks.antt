@@ -23,6 +23,6 @@ mask test n = maskFrom test 1 n
 abbrev pub onSide : Bool → List ℕ → ℕ → ℕ → Bool
 onSide near sets p q = not (eqb q p) && cond near (share (entry 0 sets p) (entry 0 sets q)) (not (share (entry 0 sets p) (entry 0 sets q)))
 
--- for each core the cores far from it
-unfoldable pub farMasks : ℕ → List ℕ → List ℕ
-farMasks cores sets = filled 8 0 (map (λ p. mask (onSide false sets p) cores) (upTo cores))
+-- for each core the cores near it, or far from it
+unfoldable pub sideMasks : Bool → ℕ → List ℕ → List ℕ
+sideMasks near cores sets = filled 8 0 (map (λ p. mask (onSide near sets p) cores) (upTo cores))

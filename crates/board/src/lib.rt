@@ -2,6 +2,8 @@
 ghost use mathlib.Core.Path.{_≡_};
 ghost use Prim.Native.Nat.{_-_, _*_, _/_, _%_, _^_, _≤_};
 ghost use lib.Count.{ones};
+ghost use lib.ListN.{replicate};
+ghost use mathlib.Core.Bool.{true, false};
 ghost use Rattle.rules.specs.declared.Table.{Table};
 ghost use Rattle.laws.specs.Idioms.{sumOver, upTo};
 ghost use Rattle.rules.specs.Cores.{share};
@@ -9,7 +11,7 @@ ghost use Rattle.rules.specs.Sound.{SoundRow};
 ghost use Rattle.rules.specs.Dram.{RD};
 ghost use Rattle.rules.specs.Board.{weight};
 ghost use Rattle.delays.specs.Figures.{FiguresBounded};
-ghost use Rattle.board.specs.Masks.{asBit, mask, onSide, farMasks};
+ghost use Rattle.board.specs.Masks.{asBit, mask, onSide, sideMasks};
 ghost use Rattle.board.specs.Costs.{costsOf, allCosts, Shows};
 use delays::Figures;
 
@@ -41,32 +43,43 @@ fn on_side(sets: &[u16; 8], p: usize, q: usize, near: bool) -> u8
     }
 }
 
-// The cores on the near side of p, or on the far side, as bits.
-fn side(cores: usize, sets: &[u16; 8], p: usize, near: bool) -> u8
-    requires { ⌜ (1 ≤ p) × (p ≤ cores) × (cores ≤ 8) ⌝ }
-    ensures { λ r. ⌜ r ≡ mask (onSide near (now (sets .entry)) p) cores ⌝ }
-{
-    let mut bits: u8 = 0;
-    let mut q = cores;
-    while 0 < q {
-        bits = bits * 2 + on_side(sets, p, q, near);
-        q -= 1;
-    }
-    bits
+// The cores near a core and those far from it, as bits.
+pub struct Sides {
+    pub near: u8,
+    pub far: u8,
 }
 
-// For each core the cores far from it.
-fn far_sides(cores: usize, sets: &[u16; 8]) -> [u8; 8]
-    requires { ⌜ cores ≤ 8 ⌝ }
-    ensures { λ r. ⌜ r ≡ farMasks cores (now (sets .entry)) ⌝ }
+// Those of core p.
+fn sides_of(cores: usize, sets: &[u16; 8], p: usize) -> Sides
+    requires { ⌜ (1 ≤ p) × (p ≤ cores) × (cores ≤ 8) ⌝ }
+    ensures { λ r. ⌜ r .near ≡ mask (onSide true (now (sets .entry)) p) cores ⌝ }
+    ensures { λ r. ⌜ r .far ≡ mask (onSide false (now (sets .entry)) p) cores ⌝ }
 {
-    let mut far = [0u8; 8];
+    let mut near: u8 = 0;
+    let mut far: u8 = 0;
+    let mut q = cores;
+    while 0 < q {
+        near = near * 2 + on_side(sets, p, q, true);
+        far = far * 2 + on_side(sets, p, q, false);
+        q -= 1;
+    }
+    Sides { near, far }
+}
+
+// Those of each core.
+fn all_sides(cores: usize, sets: &[u16; 8], near: &mut [u8; 8], far: &mut [u8; 8])
+    requires { ⌜ cores ≤ 8 ⌝ }
+    requires { ⌜ (now near ≡ replicate 8 0) × (now far ≡ replicate 8 0) ⌝ }
+    ensures { λ _. ⌜ now (near .exit) ≡ sideMasks true cores (now (sets .entry)) ⌝ }
+    ensures { λ _. ⌜ now (far .exit) ≡ sideMasks false cores (now (sets .entry)) ⌝ }
+{
     let mut p: usize = 0;
     while p < cores {
-        far[p] = side(cores, sets, p + 1, false);
+        let both = sides_of(cores, sets, p + 1);
+        near[p] = both.near;
+        far[p] = both.far;
         p += 1;
     }
-    far
 }
 
 // How many cores the bits stand for.
@@ -135,7 +148,9 @@ pub fn all_costs(cores: usize, sets: &[u16; 8], row: [u16; 15]) -> [CoreCosts; 8
     ensures { λ r. ⌜ ((t : Table) → t .cores ≡ cores → t .sets ≡ now (sets .entry) → t .timing ≡ row → r ≡ allCosts t) ⌝ }
 {
     let figures = delays::figures_of(row);
-    let far = far_sides(cores, sets);
+    let mut near = [0u8; 8];
+    let mut far = [0u8; 8];
+    all_sides(cores, sets, &mut near, &mut far);
     let none = CoreCosts {
         request: 0,
         weight: [0u64; 8],
@@ -143,8 +158,7 @@ pub fn all_costs(cores: usize, sets: &[u16; 8], row: [u16; 15]) -> [CoreCosts; 8
     let mut all = [none; 8];
     let mut p: usize = 0;
     while p < cores {
-        let near = side(cores, sets, p + 1, true);
-        all[p] = costs(cores, near, &far, p + 1, figures);
+        all[p] = costs(cores, near[p], &far, p + 1, figures);
         p += 1;
     }
     all

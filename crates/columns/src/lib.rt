@@ -109,7 +109,15 @@ pub fn judge_task(table: Table, k: u8, start: u64) -> Climbed
     let mut spans = [0u64; 33];
     let mut costs = [0u64; 33];
     let mut asks = [0u64; 33];
-    let board = laid(table, &mut core, &mut latest, &mut from, &mut spans, &mut costs, &mut asks);
+    let board = laid(
+        table,
+        &mut core,
+        &mut latest,
+        &mut from,
+        &mut spans,
+        &mut costs,
+        &mut asks,
+    );
     let invs = counts::inverses(board.tasks, &spans);
     let i = (k as usize) - 1;
     let p = (core[i] as usize) - 1;
@@ -131,6 +139,14 @@ pub fn judge_tasks(table: Table, starts: [u64; 32]) -> AllJudged
     let mut spans = [0u64; 33];
     let mut costs = [0u64; 33];
     let mut asks = [0u64; 33];
-    let board = laid(table, &mut core, &mut latest, &mut from, &mut spans, &mut costs, &mut asks);
+    let board = laid(
+        table,
+        &mut core,
+        &mut latest,
+        &mut from,
+        &mut spans,
+        &mut costs,
+        &mut asks,
+    );
     rounds::judge_lent(board, &core, &latest, &starts, &from, &spans, &costs, &asks)
 }

@@ -114,6 +114,14 @@ pub fn judge(file: &[u8], starts: [u64; 32]) -> AllJudged
     let mut spans = [0u64; 33];
     let mut costs = [0u64; 33];
     let mut asks = [0u64; 33];
-    let board = laid(file, &mut core, &mut latest, &mut from, &mut spans, &mut costs, &mut asks);
+    let board = laid(
+        file,
+        &mut core,
+        &mut latest,
+        &mut from,
+        &mut spans,
+        &mut costs,
+        &mut asks,
+    );
     rounds::judge_lent(board, &core, &latest, &starts, &from, &spans, &costs, &asks)
 }
