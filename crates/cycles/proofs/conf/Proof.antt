@@ -2,8 +2,8 @@
 use native.Mathlib.Omega.{arith}
 use borrow.Author.Needs.{needs}
 use Rattle.rules.specs.Delays.{reopen, conf}
-use Rattle.delays.proofs.conf.Statement.{statement}
-use Rattle.delays.proofs.conf.Tie as tie
+use Rattle.cycles.proofs.conf.Statement.{statement}
+use Rattle.cycles.proofs.conf.Tie as tie
 
 returns : tie.Need-returns
 unfolding reopen conf
