@@ -1,12 +1,12 @@
 // carry OLDER NEWER: the newer table's listing, judged from the older one's bounds where that is sound, and what that spared.
+use line::front;
+use line::labelled;
+use line::word;
 use rules::Answer;
 use rules::Read;
 use rules::Refusal;
 use rules::Rejudged;
 use rules::Table;
-use line::front;
-use line::labelled;
-use line::word;
 
 // The first n bytes to standard output.
 fn say(line: &[u8], n: usize) {

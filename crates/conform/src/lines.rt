@@ -1,11 +1,11 @@
 // Answers as text.
+use line::labelled;
+use line::number;
+use line::word;
 use rules::Answer;
 use rules::Delay;
 use rules::Refusal;
 use rules::Verdict;
-use line::labelled;
-use line::number;
-use line::word;
 
 pub fn end_line(out: &mut [u8], at: usize) -> usize {
     word(out, at, b"\n")

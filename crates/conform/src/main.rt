@@ -2,6 +2,9 @@
 mod lines;
 mod raw;
 
+use line::front;
+use line::labelled;
+use line::word;
 use lines::accepted;
 use lines::answered;
 use lines::end_line;
@@ -13,9 +16,6 @@ use rules::Judged;
 use rules::Refusal;
 use rules::Table;
 use rules::Written;
-use line::front;
-use line::labelled;
-use line::word;
 ghost use Prim.Native.Nat.{_≤_};
 ghost use lib.ListN.{length};
 
