@@ -1,4 +1,4 @@
--- `delays::act` meets its contract. Assumes nothing.
+-- `cycles::act` meets its contract. Assumes nothing.
 use native.Mathlib.Omega.{arith}
 use borrow.Author.Needs.{needs}
 use Rattle.rules.specs.Delays.{act}

@@ -1,4 +1,4 @@
--- `delays::figure` meets its contract: a figure has 16 bits. Assumes nothing.
+-- `cycles::figure` meets its contract: a figure has 16 bits. Assumes nothing.
 use mathlib.Core.Path.{refl}
 use native.Mathlib.Omega.{arith}
 use lib.ListN.{getD}

@@ -1,4 +1,4 @@
--- `delays::hit` meets its contract. Assumes nothing.
+-- `cycles::hit` meets its contract. Assumes nothing.
 use native.Mathlib.Omega.{arith}
 use borrow.Author.Needs.{needs}
 use Rattle.rules.specs.Delays.{hit}

@@ -1,4 +1,4 @@
--- `delays::larger` cuts the difference off at zero. Assumes nothing.
+-- `cycles::larger` cuts the difference off at zero. Assumes nothing.
 use borrow.Author.Needs.{needs}
 use Rattle.laws.proofs.Signed.{larger-cut}
 use Rattle.cycles.proofs.larger.Statement.{statement}

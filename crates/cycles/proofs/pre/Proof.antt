@@ -1,4 +1,4 @@
--- `delays::pre` meets its contract. Assumes nothing.
+-- `cycles::pre` meets its contract. Assumes nothing.
 use mathlib.Core.Path.{refl}
 use Rattle.rules.specs.Delays.{pre}
 use Rattle.cycles.proofs.pre.Statement.{statement}

@@ -1,4 +1,4 @@
--- `delays::quotient` meets its contract. Assumes nothing.
+-- `cycles::quotient` meets its contract. Assumes nothing.
 use native.Mathlib.Nat.{div-zero}
 use borrow.Author.Needs.{needs}
 use Rattle.cycles.proofs.quotient.Statement.{statement}

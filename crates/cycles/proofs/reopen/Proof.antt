@@ -1,4 +1,4 @@
--- `delays::reopen` meets its contract. Assumes nothing.
+-- `cycles::reopen` meets its contract. Assumes nothing.
 use native.Mathlib.Omega.{arith}
 use borrow.Author.Needs.{needs}
 use Rattle.rules.specs.Delays.{reopen}

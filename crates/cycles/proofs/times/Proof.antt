@@ -1,4 +1,4 @@
--- `delays::times` meets its contract. Assumes nothing.
+-- `cycles::times` meets its contract. Assumes nothing.
 use native.Mathlib.Omega.{arith}
 use native.Mathlib.Nat.{mul-le-mul}
 use Rattle.cycles.proofs.times.Statement.{statement}

@@ -1,4 +1,4 @@
--- `delays::window` meets its contract. Assumes nothing.
+-- `cycles::window` meets its contract. Assumes nothing.
 use mathlib.Core.Path.{sym, _∙_}
 use borrow.Author.Needs.{needs}
 use borrow.Author.Tests.{eq-eqb, ne-eqb}
