@@ -1,8 +1,8 @@
--- The table of limits is the rule's list, so what it says of a figure is what the rule says. Assumes nothing.
+-- A table of limits that is the rule's list: what it says of a figure is what the rule says. Assumes nothing.
 use Prim.Native.Nat.{ℕ, _+_, _-_}
 use mathlib.Core.Path.{_≡_, refl}
 use mathlib.Core.Bool.{Bool, true, false, _&&_}
-use mathlib.Core.List.{List, map}
+use mathlib.Core.List.{List}
 use native.Mathlib.Omega.{arith}
 use lib.Dec.{eqb}
 use lib.ListN.{getD, List·getD-map}
@@ -10,16 +10,10 @@ use borrow.Author.Tests.{eqb-true}
 use Rattle.rules.specs.Timing.{Row, BL, ranges}
 use Rattle.rules.specs.Refusals.{figureFault}
 use Rattle.timing.specs.declared.Limits.{Limits}
-use Rattle.timing.specs.Ranges.{notBurst, outOfRange}
-
-abbrev pair : Limits → ℕ × ℕ
-pair l = (l .0, l .1)
+use Rattle.timing.specs.Ranges.{notBurst, outOfRange, pair, AreRanges}
 
 abbrev none : Limits
 none = record { 0 = 0; 1 = 0 }
-
-pub record AreRanges (table : List Limits) : Type 0 where
-  pub same : map pair table ≡ ranges
 
 module _ {table : List Limits} (r : AreRanges table) (w : Row) (i : ℕ) where
   range-at : getD ranges i (0, 0) ≡ pair (getD table i none)

@@ -1,11 +1,11 @@
--- The walk over the ranges gives the first figure at fault: the table of limits is the rule's list, tested whole where the loop begins. Assumes nothing.
+-- The walk over the ranges gives the first figure at fault. Assumes nothing.
 use Prim.Native.Nat.{_-_}
-use mathlib.Core.Path.{refl, sym, _∙_}
+use mathlib.Core.Path.{sym, _∙_}
 use borrow.Author.Needs.{needs}
-use Rattle.rules.specs.Timing.{ranges}
 use Rattle.rules.specs.Refusals.{figureFault}
 use Rattle.rules.proofs.First.{Left, left-all, left-hit, left-next, left-none}
-use Rattle.timing.proofs.Ranges.{AreRanges, fault-at}
+use Rattle.timing.proofs.Ranges.{fault-at}
+use Rattle.timing.specs.Ranges.{AreRanges}
 use Rattle.timing.proofs.check_ranges.Statement.{statement}
 use Rattle.timing.proofs.check_ranges.Tie as tie
 
@@ -16,8 +16,7 @@ abbrev μ-loop : tie.MeasureT-loop
 μ-loop row table i₀ i = 15 - i
 
 loop-holds : tie.Need-loop-holds Inv-loop μ-loop
-unfolding ranges
-loop-holds c = (left-all _ _ _, record { same = refl })
+loop-holds c = (left-all _ _ _, c .all-limits .ensures)
 
 returns : tie.Need-returns Inv-loop μ-loop
 returns c =
@@ -35,6 +34,6 @@ returns-2 c = c .refused2 .ensures ∙ left-none _ _ _ _ (c .before .before .loo
 pub check-ranges-spec : {M : Type 1} → statement M
 check-ranges-spec =
     tie.close
-    (tie.spec Inv-loop μ-loop loop-holds (λ c. search needs) (λ c. search needs) (λ c. search needs) (λ c. search needs) (λ c. search needs)
+    (tie.spec Inv-loop μ-loop (λ c κs. search needs) loop-holds (λ c. search needs) (λ c. search needs) (λ c. search needs) (λ c. search needs) (λ c. search needs)
     (λ c κs. search needs) (λ c. search needs) (λ c. search needs) (λ c κs. search needs) returns (λ c. search needs) (λ c. search needs) loop-again
     (λ c κs. search needs) returns-2)

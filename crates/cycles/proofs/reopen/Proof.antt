@@ -1,9 +1,9 @@
--- `delays::reopen` meets its contract. Assumes nothing.
+-- `cycles::reopen` meets its contract. Assumes nothing.
 use native.Mathlib.Omega.{arith}
 use borrow.Author.Needs.{needs}
 use Rattle.rules.specs.Delays.{reopen}
-use Rattle.delays.proofs.reopen.Statement.{statement}
-use Rattle.delays.proofs.reopen.Tie as tie
+use Rattle.cycles.proofs.reopen.Statement.{statement}
+use Rattle.cycles.proofs.reopen.Tie as tie
 
 returns : tie.Need-returns
 unfolding reopen

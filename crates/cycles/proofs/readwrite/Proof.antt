@@ -1,9 +1,9 @@
--- `delays::readwrite` meets its contract. Assumes nothing.
+-- `cycles::readwrite` meets its contract. Assumes nothing.
 use native.Mathlib.Omega.{arith}
 use borrow.Author.Needs.{needs}
 use Rattle.rules.specs.Delays.{readwrite}
-use Rattle.delays.proofs.readwrite.Statement.{statement}
-use Rattle.delays.proofs.readwrite.Tie as tie
+use Rattle.cycles.proofs.readwrite.Statement.{statement}
+use Rattle.cycles.proofs.readwrite.Tie as tie
 
 returns : tie.Need-returns
 unfolding readwrite

@@ -1,8 +1,8 @@
--- `delays::pre` meets its contract. Assumes nothing.
+-- `cycles::pre` meets its contract. Assumes nothing.
 use mathlib.Core.Path.{refl}
 use Rattle.rules.specs.Delays.{pre}
-use Rattle.delays.proofs.pre.Statement.{statement}
-use Rattle.delays.proofs.pre.Tie as tie
+use Rattle.cycles.proofs.pre.Statement.{statement}
+use Rattle.cycles.proofs.pre.Tie as tie
 
 returns : tie.Need-returns
 unfolding pre

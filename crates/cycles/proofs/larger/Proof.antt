@@ -1,8 +1,8 @@
--- `delays::larger` cuts the difference off at zero. Assumes nothing.
+-- `cycles::larger` cuts the difference off at zero. Assumes nothing.
 use borrow.Author.Needs.{needs}
 use Rattle.laws.proofs.Signed.{larger-cut}
-use Rattle.delays.proofs.larger.Statement.{statement}
-use Rattle.delays.proofs.larger.Tie as tie
+use Rattle.cycles.proofs.larger.Statement.{statement}
+use Rattle.cycles.proofs.larger.Tie as tie
 
 returns : tie.Need-returns
 returns c = rw (c .most .ensures, c .before .less .ensures, larger-cut)

@@ -1,9 +1,9 @@
--- `delays::conf` meets its contract. Assumes nothing.
+-- `cycles::conf` meets its contract. Assumes nothing.
 use native.Mathlib.Omega.{arith}
 use borrow.Author.Needs.{needs}
 use Rattle.rules.specs.Delays.{reopen, conf}
-use Rattle.delays.proofs.conf.Statement.{statement}
-use Rattle.delays.proofs.conf.Tie as tie
+use Rattle.cycles.proofs.conf.Statement.{statement}
+use Rattle.cycles.proofs.conf.Tie as tie
 
 returns : tie.Need-returns
 unfolding reopen conf

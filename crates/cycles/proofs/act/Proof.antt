@@ -1,9 +1,9 @@
--- `delays::act` meets its contract. Assumes nothing.
+-- `cycles::act` meets its contract. Assumes nothing.
 use native.Mathlib.Omega.{arith}
 use borrow.Author.Needs.{needs}
 use Rattle.rules.specs.Delays.{act}
-use Rattle.delays.proofs.act.Statement.{statement}
-use Rattle.delays.proofs.act.Tie as tie
+use Rattle.cycles.proofs.act.Statement.{statement}
+use Rattle.cycles.proofs.act.Tie as tie
 
 returns : tie.Need-returns
 unfolding act

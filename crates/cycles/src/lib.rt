@@ -1,0 +1,168 @@
+// Document 01's delay figures in cycles, as code.
+ghost use mathlib.Core.Path.{_≡_};
+ghost use Prim.Native.Nat.{_+_, _-_, _*_, _/_, _<_, _≤_, min};
+ghost use lib.ListN.{getD};
+ghost use Rattle.laws.specs.Idioms.{_⊖_, larger};
+ghost use Rattle.rules.specs.Timing.{CL, WL, BL, tWTR};
+ghost use Rattle.rules.specs.Delays.{pre, act, readwrite, hit, reopen, conf, run, window};
+use rules::Cycles;
+use rules::most;
+
+// The places of the figures in a row.
+pub const TCK: usize = 0;
+
+pub const TRP: usize = 1;
+
+pub const TRCD: usize = 2;
+
+pub const CL: usize = 3;
+
+pub const WL: usize = 4;
+
+pub const BL: usize = 5;
+
+pub const TWTR: usize = 6;
+
+pub const TWR: usize = 7;
+
+pub const TRRD: usize = 8;
+
+pub const TFAW: usize = 9;
+
+pub const TRAS: usize = 10;
+
+pub const TRTP: usize = 11;
+
+pub const TRTRS: usize = 12;
+
+pub const NCOLS: usize = 13;
+
+pub const NCAP: usize = 14;
+
+// A figure of a row, wide enough that no sum of figures wraps.
+pub fn figure(row: [u16; 15], k: usize) -> u64
+    requires { ⌜ k < 15 ⌝ }
+    ensures { λ r. ⌜ (r ≡ getD row k 0) × (r ≤ 65535) ⌝ }
+{
+    row[k] as u64
+}
+
+// A difference that falls below zero is never the larger of two, so it is cut off at zero and does not wrap.
+fn less(a: u64, b: u64) -> u64
+    ensures { λ r. ⌜ r ≡ a - b ⌝ }
+{
+    if a < b { 0 } else { a - b }
+}
+
+fn least(a: u64, b: u64) -> u64
+    ensures { λ r. ⌜ r ≡ min a b ⌝ }
+{
+    if a < b { a } else { b }
+}
+
+// The larger of a and the difference of x and y.
+fn larger(a: u64, x: u64, y: u64) -> u64
+    ensures { λ r. ⌜ r ≡ larger a (x ⊖ y) ⌝ }
+{
+    most(a, less(x, y))
+}
+
+// The rules' quotient, which is 0 where the divisor is.
+fn quotient(a: u64, b: u64) -> u64
+    ensures { λ r. ⌜ r ≡ a / b ⌝ }
+{
+    if b == 0 { 0 } else { a / b }
+}
+
+// A count of at most 65535/2 rounded up, times a sum of figures.
+fn times(a: u64, b: u64) -> u64
+    requires { ⌜ (a ≤ 32768) × (b ≤ 163837) ⌝ }
+    ensures { λ r. ⌜ (r ≡ a * b) × (r ≤ 32768 * 163837) ⌝ }
+{
+    a * b
+}
+
+// WL + BL/2 + tWTR: from a write to a read.
+pub fn turn(row: [u16; 15]) -> u64
+    ensures { λ r. ⌜ (r ≡ WL row + BL row / 2 + tWTR row) × (r ≤ 163837) ⌝ }
+{
+    figure(row, WL) + figure(row, BL) / 2 + figure(row, TWTR)
+}
+
+// "pre = 1."
+pub fn pre() -> Cycles
+    ensures { λ r. ⌜ r ≡ pre ⌝ }
+{
+    Cycles(1)
+}
+
+// "act = max(tRRD, tFAW − 3·tRRD)."
+pub fn act(row: [u16; 15]) -> Cycles
+    ensures { λ r. ⌜ r ≡ act row ⌝ }
+{
+    let rrd = figure(row, TRRD);
+    let faw = figure(row, TFAW);
+    Cycles(larger(rrd, faw, 3 * rrd))
+}
+
+// "rw = the largest of WL + BL/2 + tWTR; CL + BL/2 + 2 − WL; WL + BL/2 + tRTRS − CL; CL + BL/2 + tRTRS − WL; BL/2 + tRTRS."
+pub fn readwrite(row: [u16; 15]) -> Cycles
+    ensures { λ r. ⌜ r ≡ readwrite row ⌝ }
+{
+    let cl = figure(row, CL);
+    let wl = figure(row, WL);
+    let half = figure(row, BL) / 2;
+    let rtrs = figure(row, TRTRS);
+    let mut longest = turn(row);
+    longest = larger(longest, cl + half + 2, wl);
+    longest = larger(longest, wl + half + rtrs, cl);
+    longest = larger(longest, cl + half + rtrs, wl);
+    Cycles(larger(longest, half + rtrs, 0))
+}
+
+// "hit = max(CL + BL/2 + 2, WL + BL/2 + max(tWTR, tWR))."
+pub fn hit(row: [u16; 15]) -> Cycles
+    ensures { λ r. ⌜ (r ≡ hit row) × (r .0 ≤ 163837) ⌝ }
+{
+    let half = figure(row, BL) / 2;
+    let read = figure(row, CL) + half + 2;
+    let write = figure(row, WL) + half + most(figure(row, TWTR), figure(row, TWR));
+    Cycles(most(read, write))
+}
+
+// tRP + tRCD: the two extra commands
+pub fn reopen(row: [u16; 15]) -> Cycles
+    ensures { λ r. ⌜ r ≡ reopen row ⌝ }
+{
+    Cycles(figure(row, TRP) + figure(row, TRCD))
+}
+
+// "conf = tRP + tRCD + hit."
+pub fn conf(row: [u16; 15]) -> Cycles
+    ensures { λ r. ⌜ r ≡ conf row ⌝ }
+{
+    Cycles(figure(row, TRP) + figure(row, TRCD) + hit(row).0)
+}
+
+// "run(m) = m/2 rounded up, times (WL + BL/2 + tWTR), plus m/2 rounded down, times CL, plus (tWR − tWTR)."
+pub fn run(row: [u16; 15], m: u64) -> Cycles
+    requires { ⌜ m ≤ 65535 ⌝ }
+    ensures { λ r. ⌜ r ≡ run row m ⌝ }
+{
+    let writes = times((m + 1) / 2, turn(row));
+    let reads = times(m / 2, figure(row, CL));
+    Cycles(writes + reads + less(figure(row, TWR), figure(row, TWTR)))
+}
+
+// "window = min(Ncols/BL, Ncap); Ncols/BL where Ncap is unknown."
+pub fn window(row: [u16; 15]) -> u64
+    ensures { λ r. ⌜ r ≡ window row ⌝ }
+{
+    let bursts = quotient(figure(row, NCOLS), figure(row, BL));
+    let cap = figure(row, NCAP);
+    if cap == 65535 {
+        bursts
+    } else {
+        least(bursts, cap)
+    }
+}
