@@ -45,11 +45,11 @@ module _ (s starts : List ℕ) where
   refusal-by true e = rw (judged-as e, e)
   refusal-by false e = rw e
 
-  pub refusal-is : judgedFile s lent .refusal ≡ checkJudging s starts
+  refusal-is : judgedFile s lent .refusal ≡ checkJudging s starts
   refusal-is = refusal-by (isAccepted (checkFile s)) refl
 
   -- the places after the tasks hold no answer
-  pub answers-all : isAccepted (checkJudging s starts) ≡ true → take (tasksIn s) (judgedFile s lent .answers) ≡ answersOf s starts
+  answers-all : isAccepted (checkJudging s starts) ≡ true → take (tasksIn s) (judgedFile s lent .answers) ≡ answersOf s starts
   unfolding judgeAll answersFrom answersOf decode checkJudging
   answers-all e =
       let both = both-accepted (checkFile s) (checkAll (decode s) (entry 0 starts)) e in

@@ -97,7 +97,7 @@ module _ (t : Table) (s : Sound t) {l : Lent} (o : Held t l) where
     own-is : getD (l .core) i 0 ≡ own
     own-is = o .lanes .core-is i here
 
-    pub own-in : Within 1 (t .cores) own
+    own-in : Within 1 (t .cores) own
     own-in = task-sound i here .core-in
 
     there : own - 1 < t .cores
@@ -126,7 +126,7 @@ module _ (t : Table) (s : Sound t) {l : Lent} (o : Held t l) where
     rank-low : length (placesOn (l .core) own i) < length (placesOn (l .core) own (t .tasks))
     rank-low = own-within (l .core) own i (t .tasks) here own-is
 
-    pub place-low : placeAt l i ≤ 32
+    place-low : placeAt l i ≤ 32
     place-low =
         let g = rw back at (o .ordered .each (own - 1) there .next) in
         omega (arith, place-is, rank-low, g, rw back at (o .ordered .each (own - 1) there .few), s .tasks-in .high)

@@ -59,7 +59,7 @@ module _ (core : List ℕ) (q : ℕ) where
   places-few i n h = let e : i + (n - i) ≡ n = omega arith in rw e at (few-more i (n - i))
 
   -- the first of the places are those of the first tasks; and a task's own place comes after those before it
-  pub places-split : (i n : ℕ) → i ≤ n → (rest : List ℕ) × (placesOn core q n ≡ placesOn core q i ++ rest)
+  places-split : (i n : ℕ) → i ≤ n → (rest : List ℕ) × (placesOn core q n ≡ placesOn core q i ++ rest)
   places-split i zero h = let e : i ≡ 0 = omega arith in ([], rw (e, append-nil))
   places-split i (suc n) h = rw (← add-one n) (go (decLe i n) (places-split i n))
     where
