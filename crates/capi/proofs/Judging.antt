@@ -16,8 +16,9 @@ use Rattle.verdicts.specs.Judged.{judgedFile}
 use Rattle.rules.proofs.Accepted.{sound}
 use Rattle.rules.proofs.Reading.{decoded-accepted}
 use Rattle.rules.proofs.Chain.{passes, refuses, both-accepted}
-use Rattle.capi.specs.Codes.{codeOf}
-use Rattle.capi.specs.Columns.{checkJudging, answersOf, columnAfter, Columns, JudgedFile}
+use Rattle.plain.specs.Codes.{codeOf}
+use Rattle.capi.specs.Columns.{checkJudging, answersOf, columnAfter, JudgedFile}
+use Rattle.plain.specs.Stored.{Stored}
 use Rattle.laws.proofs.Filled.{take-filled}
 use Rattle.rules.proofs.LentStarts.{lent-starts}
 
@@ -70,7 +71,7 @@ module _ (s starts : List ℕ) {bounds rounds by : List ℕ} where
   unfolding columnAfter
   refused-leaves e = record { returned = refl; bounds-are = rw e; rounds-are = rw e; by-are = rw e }
 
-  accepted-gives : {bounds′ rounds′ by′ : List ℕ} → isAccepted (checkJudging s starts) ≡ true → Columns (answersOf s starts) bounds rounds by bounds′ rounds′ by′
+  accepted-gives : {bounds′ rounds′ by′ : List ℕ} → isAccepted (checkJudging s starts) ≡ true → Stored (answersOf s starts) bounds rounds by bounds′ rounds′ by′
       → JudgedFile s starts bounds rounds by 0 bounds′ rounds′ by′
   unfolding columnAfter
   accepted-gives e given = record {
@@ -84,7 +85,7 @@ module _ (s starts : List ℕ) {bounds rounds by : List ℕ} where
     pub judging-refused : (r .refusal .number ≡ 0 → ⊥) → JudgedFile s starts bounds rounds by (codeOf (r .refusal)) bounds rounds by
     judging-refused refused = rw (by-result s starts is) (refused-leaves (refuses (by-result s starts is) refused))
 
-    pub all-judged : {bounds′ rounds′ by′ : List ℕ} → r .refusal .number ≡ 0 → Columns (take (tasksIn s) (r .answers)) bounds rounds by bounds′ rounds′ by′
+    pub all-judged : {bounds′ rounds′ by′ : List ℕ} → r .refusal .number ≡ 0 → Stored (take (tasksIn s) (r .answers)) bounds rounds by bounds′ rounds′ by′
         → JudgedFile s starts bounds rounds by 0 bounds′ rounds′ by′
     all-judged passed given =
         let accepted = passes (by-result s starts is) passed in

@@ -7,12 +7,13 @@ use lib.ListN.{length, take, drop}
 use Rattle.rules.specs.declared.Refusal.{Refusal}
 use Rattle.rules.specs.declared.Answer.{Answer}
 use Rattle.laws.specs.Idioms.{upTo, entry}
-use Rattle.rules.specs.Judgement.{judge, boundOf}
+use Rattle.rules.specs.Judgement.{judge}
 use Rattle.rules.specs.Chain.{_orElse_, isAccepted}
 use Rattle.rules.specs.Refusals.{checkAll}
 use Rattle.rules.specs.File.{tasksIn, decode}
 use Rattle.rules.specs.Operations.{checkFile}
-use Rattle.capi.specs.Codes.{codeOf, byNumber}
+use Rattle.plain.specs.Codes.{codeOf}
+use Rattle.plain.specs.Stored.{laidOver, boundIn, roundsIn, byIn}
 
 -- "Tasks beyond starts_n begin at 0; starts beyond the tasks are ignored": the entry beyond the list's end is 0
 unfoldable pub checkJudging : List ℕ → List ℕ → Refusal
@@ -20,26 +21,6 @@ checkJudging s starts = checkFile s orElse checkAll (decode s) (entry 0 starts)
 
 unfoldable pub answersOf : List ℕ → List ℕ → List Answer
 answersOf s starts = map (λ k. judge (decode s) k (entry 0 starts k)) (upTo (tasksIn s))
-
--- "as far as each output reaches"; "Places beyond the tasks keep what they held."
-abbrev pub laidOver : List ℕ → List ℕ → List ℕ
-laidOver new out = take (length out) new ++ drop (length new) out
-
--- the three columns
-abbrev pub boundIn : Answer → ℕ
-boundIn a = boundOf (a .verdict)
-
-abbrev pub roundsIn : Answer → ℕ
-roundsIn a = a .rounds
-
-abbrev pub byIn : Answer → ℕ
-byIn a = byNumber (a .verdict)
-
--- the outputs with some answers in them
-pub record Columns (answers : List Answer) (bounds rounds by bounds′ rounds′ by′ : List ℕ) : Type 0 where
-  pub bounds-are : bounds′ ≡ laidOver (map boundIn answers) bounds
-  pub rounds-are : rounds′ ≡ laidOver (map roundsIn answers) rounds
-  pub by-are : by′ ≡ laidOver (map byIn answers) by
 
 -- an output afterwards. "Returns the refusal .. Then no output is changed."
 unfoldable pub columnAfter : (Answer → ℕ) → List ℕ → List ℕ → List ℕ → List ℕ

@@ -21,7 +21,7 @@ use Rattle.writer.specs.Answers.{Wrote}
 use Rattle.text.specs.Put.{Given}
 use Rattle.verdicts.specs.Judged.{judgedFile}
 use Rattle.listing.specs.Lines.{tableText}
-use Rattle.capi.specs.Codes.{codeOf}
+use Rattle.plain.specs.Codes.{codeOf}
 use Rattle.capi.specs.Columns.{JudgedFile}
 use Rattle.capi.specs.Record.{recordPlace}
 

@@ -1,6 +1,5 @@
 // Judgement of one task and of all: the refusals in their order, then the rounds.
 ghost use mathlib.Core.Path.{_≡_};
-ghost use Rattle.rules.specs.Judgement.{boundOf};
 ghost use Rattle.rules.specs.Refusals.{checkJudged, checkStart};
 ghost use Rattle.rules.specs.Operations.{judgeOne, judgeAll};
 ghost use Rattle.columns.specs.Numbered.{notJudged};
@@ -8,7 +7,6 @@ use rules::AllJudged;
 use rules::Judged;
 use rules::Refusal;
 use rules::Table;
-use rules::Verdict;
 use rules::refused;
 
 // A refused judgement of one.
@@ -76,14 +74,4 @@ pub fn judge_all(table: Table, starts: [u64; 32]) -> AllJudged
         return rounds::none_judged(refusal);
     }
     columns::judge_tasks(table, starts)
-}
-
-// Its bound, or 0 where it misses.
-pub fn bound_of(verdict: Verdict) -> u64
-    ensures { λ r. ⌜ r ≡ boundOf verdict ⌝ }
-{
-    match verdict {
-        Verdict::Misses => 0,
-        Verdict::Holds(bound, _) => bound.0,
-    }
 }

@@ -34,7 +34,7 @@ fn older_starts(older: Table) -> [u64; 32]
     while i < 32 {
         let answer = all[i];
         let verdict = answer.verdict;
-        starts[i] = judge::bound_of(verdict);
+        starts[i] = plain::bound_of(verdict);
         i += 1;
     }
     starts

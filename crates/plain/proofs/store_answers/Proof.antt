@@ -4,13 +4,13 @@ use Prim.Native.Nat.{_-_, _≤_}
 use native.Mathlib.Omega.{arith}
 use borrow.Author.Needs.{needs}
 use lib.ListN.{length, take}
-use Rattle.capi.specs.Columns.{Columns}
-use Rattle.capi.proofs.Laid.{columns-none, columns-next, columns-lengths}
-use Rattle.capi.proofs.store_answers.Statement.{statement}
-use Rattle.capi.proofs.store_answers.Tie as tie
+use Rattle.plain.specs.Stored.{Stored}
+use Rattle.plain.proofs.Laid.{columns-none, columns-next, columns-lengths}
+use Rattle.plain.proofs.store_answers.Statement.{statement}
+use Rattle.plain.proofs.store_answers.Tie as tie
 
 abbrev Inv-loop : tie.InvT-loop
-Inv-loop n bounds₀ rounds₀ by₀ answers i₀ bounds rounds by i = (i ≤ n) × Columns (take i answers) bounds₀ rounds₀ by₀ bounds rounds by
+Inv-loop n bounds₀ rounds₀ by₀ answers i₀ bounds rounds by i = (i ≤ n) × Stored (take i answers) bounds₀ rounds₀ by₀ bounds rounds by
 
 abbrev μ-loop : tie.MeasureT-loop
 μ-loop n bounds₀ rounds₀ by₀ answers i₀ bounds rounds by i = n - i

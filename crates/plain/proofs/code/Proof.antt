@@ -1,8 +1,8 @@
 -- `code` meets its contract. Assumes nothing.
 use borrow.Author.Needs.{needs}
 use borrow.Author.Tests.{eq-eqb, ne-eqb}
-use Rattle.capi.proofs.code.Statement.{statement}
-use Rattle.capi.proofs.code.Tie as tie
+use Rattle.plain.proofs.code.Statement.{statement}
+use Rattle.plain.proofs.code.Tie as tie
 
 returns : tie.Need-returns
 returns c = rw (eq-eqb _ _ (c .if1 .taken))

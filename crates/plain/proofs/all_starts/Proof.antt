@@ -8,8 +8,8 @@ use lib.ListN.{length, take}
 use lib.Seq.{take-all}
 use Rattle.laws.specs.Idioms.{filled}
 use Rattle.laws.proofs.Filled.{filled-next}
-use Rattle.capi.proofs.all_starts.Statement.{statement}
-use Rattle.capi.proofs.all_starts.Tie as tie
+use Rattle.plain.proofs.all_starts.Statement.{statement}
+use Rattle.plain.proofs.all_starts.Tie as tie
 
 abbrev Inv-loop : tie.InvT-loop
 Inv-loop starts all₀ i₀ all i = (i ≤ 32) × (i ≤ length starts) × (all ≡ filled 32 0 (take i starts))

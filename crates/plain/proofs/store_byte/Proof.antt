@@ -2,8 +2,8 @@
 use borrow.Author.Needs.{needs}
 use mathlib.Core.Path.{sym}
 use lib.Seq.{set-out}
-use Rattle.capi.proofs.store_byte.Statement.{statement}
-use Rattle.capi.proofs.store_byte.Tie as tie
+use Rattle.plain.proofs.store_byte.Statement.{statement}
+use Rattle.plain.proofs.store_byte.Tie as tie
 
 returns-2 : tie.Need-returns-2
 returns-2 c = sym (set-out _ _ _ (c .if1 .left))

@@ -8,7 +8,7 @@ use lib.ListN.{length, length-map, take, getD, set}
 use lib.Seq.{take-nil, take-suc, length-take-le}
 use Rattle.rules.specs.declared.Answer.{Answer}
 use Rattle.rules.specs.Judgement.{misses}
-use Rattle.capi.specs.Columns.{laidOver, boundIn, roundsIn, byIn, Columns}
+use Rattle.plain.specs.Stored.{laidOver, boundIn, roundsIn, byIn, Stored}
 
 laid-none : (out : List ℕ) → laidOver [] out ≡ out
 laid-none out = rw take-nil
@@ -39,20 +39,20 @@ laid-next f l i d out h =
 -- ---- the three outputs
 
 module _ {bounds rounds by : List ℕ} where
-  pub columns-none : Columns [] bounds rounds by bounds rounds by
+  pub columns-none : Stored [] bounds rounds by bounds rounds by
   columns-none = record { bounds-are = sym (laid-none bounds); rounds-are = sym (laid-none rounds); by-are = sym (laid-none by) }
 
   -- one answer more
   pub columns-next : (answers : List Answer) (i : ℕ) {bounds′ rounds′ by′ : List ℕ} → i < length answers
-      → Columns (take i answers) bounds rounds by bounds′ rounds′ by′ → let a = getD answers i (misses 0) in
-      Columns (take (i + 1) answers) bounds rounds by (set bounds′ i (boundIn a)) (set rounds′ i (roundsIn a)) (set by′ i (byIn a))
+      → Stored (take i answers) bounds rounds by bounds′ rounds′ by′ → let a = getD answers i (misses 0) in
+      Stored (take (i + 1) answers) bounds rounds by (set bounds′ i (boundIn a)) (set rounds′ i (roundsIn a)) (set by′ i (byIn a))
   columns-next answers i h so = record {
     bounds-are = rw (so .bounds-are) (laid-next boundIn answers i (misses 0) bounds h);
     rounds-are = rw (so .rounds-are) (laid-next roundsIn answers i (misses 0) rounds h);
     by-are = rw (so .by-are) (laid-next byIn answers i (misses 0) by h);
   }
 
-  pub columns-lengths : {answers : List Answer} {bounds′ rounds′ by′ : List ℕ} → Columns answers bounds rounds by bounds′ rounds′ by′
+  pub columns-lengths : {answers : List Answer} {bounds′ rounds′ by′ : List ℕ} → Stored answers bounds rounds by bounds′ rounds′ by′
       → (length bounds′ ≡ length bounds) × (length rounds′ ≡ length rounds) × (length by′ ≡ length by)
   columns-lengths {answers} so = (
     rw (so .bounds-are) (laid-length (map boundIn answers) bounds),

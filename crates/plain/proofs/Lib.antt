@@ -1,0 +1,3 @@
+-- The laws that the proofs of this crate cite.
+--     Laid  answers stored into an output, one after the other
+pub mod Laid
