@@ -1,6 +1,6 @@
 -- The three ways in which a file's judgement ends: the file is refused, or a start is, or every task has its answer. Assumes nothing.
-use mathlib.Core.Path.{_≡_, refl}
-use mathlib.Core.Bool.{Bool, true, false}
+use mathlib.Core.Path.{_≡_, refl, sym, _∙_}
+use mathlib.Core.Bool.{true, false}
 use mathlib.Core.List.{List}
 use Prim.Native.Nat.{ℕ, _≤_}
 use lib.ListN.{take}
@@ -8,14 +8,12 @@ use Rattle.laws.specs.Idioms.{entry, filled}
 use Rattle.rules.specs.Judgement.{judge, misses}
 use Rattle.rules.specs.Chain.{isAccepted}
 use Rattle.rules.specs.File.{tasksIn, decode}
-use Rattle.rules.specs.Refusals.{checkAll}
+use Rattle.rules.specs.declared.Refusal.{Refusal}
 use Rattle.rules.specs.declared.AllJudged.{AllJudged}
 use Rattle.rules.specs.Operations.{checkFile, answersFrom, judgeAll}
-use Rattle.rounds.specs.Lent.{noneJudged}
-use Rattle.verdicts.specs.Judged.{judgedFile}
 use Rattle.rules.proofs.Accepted.{sound}
 use Rattle.rules.proofs.Reading.{decoded-accepted}
-use Rattle.rules.proofs.Chain.{passes, refuses, both-accepted}
+use Rattle.rules.proofs.Chain.{passes, refuses, first-refuses, second-decides}
 use Rattle.plain.specs.Codes.{codeOf}
 use Rattle.capi.specs.Columns.{checkJudging, answersOf, columnAfter, JudgedFile}
 use Rattle.plain.specs.Stored.{Stored}
@@ -29,40 +27,30 @@ module _ (s starts : List ℕ) where
   abbrev pub lent : List ℕ
   lent = filled 32 0 (take 32 starts)
 
-  accepted-file : isAccepted (checkJudging s starts) ≡ true → isAccepted (checkFile s) ≡ true
+  by-file : isAccepted (checkFile s) ≡ false → checkJudging s starts ≡ checkFile s
   unfolding checkJudging
-  accepted-file e = both-accepted (checkFile s) (checkAll (decode s) (entry 0 starts)) e .0
+  by-file e = first-refuses (checkFile s) _ e
 
-  pub few-tasks : isAccepted (checkFile s) ≡ true → tasksIn s ≤ 32
-  unfolding decode
-  few-tasks e = sound (decode s) (decoded-accepted s e) .tasks-in .high
+  module _ (file : isAccepted (checkFile s) ≡ true) where
+    by-starts : checkJudging s starts ≡ judgeAll (decode s) starts .refusal
+    unfolding checkJudging judgeAll
+    by-starts = second-decides (checkFile s) _ file
 
-  judged-as : isAccepted (checkFile s) ≡ true → judgedFile s lent ≡ judgeAll (decode s) starts
-  unfolding judgedFile decode
-  judged-as e = rw e (lent-starts (decode s) starts (few-tasks e))
+    pub few-tasks : tasksIn s ≤ 32
+    unfolding decode
+    few-tasks = sound (decode s) (decoded-accepted s file) .tasks-in .high
 
-  refusal-by : (b : Bool) → isAccepted (checkFile s) ≡ b → judgedFile s lent .refusal ≡ checkJudging s starts
-  unfolding judgedFile checkJudging judgeAll noneJudged
-  refusal-by true e = rw (judged-as e, e)
-  refusal-by false e = rw e
+    lent-judged : judgeAll (decode s) lent ≡ judgeAll (decode s) starts
+    unfolding decode
+    lent-judged = lent-starts (decode s) starts few-tasks
 
-  refusal-is : judgedFile s lent .refusal ≡ checkJudging s starts
-  refusal-is = refusal-by (isAccepted (checkFile s)) refl
+    as-judged : {r : AllJudged} → r ≡ judgeAll (decode s) lent → r .refusal ≡ judgeAll (decode s) starts .refusal
+    as-judged is = rw (is, lent-judged)
 
   -- the places after the tasks hold no answer
-  answers-all : isAccepted (checkJudging s starts) ≡ true → take (tasksIn s) (judgedFile s lent .answers) ≡ answersOf s starts
-  unfolding judgeAll answersFrom answersOf decode checkJudging
-  answers-all e =
-      let both = both-accepted (checkFile s) (checkAll (decode s) (entry 0 starts)) e in
-      rw (judged-as (both .0), both .1) (take-filled 32 (misses 0) (λ k. judge (decode s) k (entry 0 starts k)) 1 (tasksIn s))
-
-  -- what a call gave
-  module _ {r : AllJudged} (is : r ≡ judgedFile s lent) where
-    by-result : r .refusal ≡ checkJudging s starts
-    by-result = rw is refusal-is
-
-    pub judging-accepted : r .refusal .number ≡ 0 → isAccepted (checkFile s) ≡ true
-    judging-accepted passed = accepted-file (passes by-result passed)
+  answers-all : isAccepted (judgeAll (decode s) starts .refusal) ≡ true → take (tasksIn s) (judgeAll (decode s) starts .answers) ≡ answersOf s starts
+  unfolding judgeAll answersFrom answersOf decode
+  answers-all e = rw e (take-filled 32 (misses 0) (λ k. judge (decode s) k (entry 0 starts k)) 1 (tasksIn s))
 
 -- ---- the outputs afterwards, and what is returned
 
@@ -81,12 +69,19 @@ module _ (s starts : List ℕ) {bounds rounds by : List ℕ} where
     by-are = rw e (given .by-are);
   }
 
-  module _ {r : AllJudged} (is : r ≡ judgedFile s (lent s starts)) where
-    pub judging-refused : (r .refusal .number ≡ 0 → ⊥) → JudgedFile s starts bounds rounds by (codeOf (r .refusal)) bounds rounds by
-    judging-refused refused = rw (by-result s starts is) (refused-leaves (refuses (by-result s starts is) refused))
+  pub file-refused : {r : Refusal} → r ≡ checkFile s → (r .number ≡ 0 → ⊥) → JudgedFile s starts bounds rounds by (codeOf r) bounds rounds by
+  file-refused is refused =
+      let by-file = by-file s starts (refuses is refused) in
+      rw (is ∙ sym by-file) (refused-leaves (rw by-file (refuses is refused)))
+
+  module _ (file : isAccepted (checkFile s) ≡ true) {r : AllJudged} (is : r ≡ judgeAll (decode s) (lent s starts)) where
+    pub start-refused : (r .refusal .number ≡ 0 → ⊥) → JudgedFile s starts bounds rounds by (codeOf (r .refusal)) bounds rounds by
+    start-refused refused =
+        let decided : r .refusal ≡ checkJudging s starts = as-judged s starts file is ∙ sym (by-starts s starts file) in
+        rw decided (refused-leaves (refuses decided refused))
 
     pub all-judged : {bounds′ rounds′ by′ : List ℕ} → r .refusal .number ≡ 0 → Stored (take (tasksIn s) (r .answers)) bounds rounds by bounds′ rounds′ by′
         → JudgedFile s starts bounds rounds by 0 bounds′ rounds′ by′
     all-judged passed given =
-        let accepted = passes (by-result s starts is) passed in
-        accepted-gives accepted (rw (is, answers-all s starts accepted) at given)
+        let accepted = passes (as-judged s starts file is) passed in
+        accepted-gives (rw (by-starts s starts file) accepted) (rw (is, lent-judged s starts file, answers-all s starts accepted) at given)

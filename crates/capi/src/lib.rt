@@ -26,7 +26,11 @@ pub extern "C" fn ryb_judge(
 ) -> u16
     ensures { λ r. ⌜ JudgedFile (now (file .entry)) (now (starts .entry)) (now (bounds .entry)) (now (rounds .entry)) (now (by .entry)) r (now (bounds .exit)) (now (rounds .exit)) (now (by .exit)) ⌝ }
 {
-    let judged = verdicts::judge(file, plain::all_starts(starts));
+    let refusal = file::check(file);
+    if refusal.number != 0 {
+        return plain::code(refusal);
+    }
+    let judged = verdicts::judge_accepted(file, plain::all_starts(starts));
     if judged.refusal.number != 0 {
         return plain::code(judged.refusal);
     }

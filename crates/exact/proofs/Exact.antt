@@ -36,7 +36,6 @@ promises = record {
   judge-one = λ t k start. only-one _;
   judge-all = λ t starts. only-one _;
   judge-carried = λ older newer a b p q. p .is ∙ sym (q .is);
-  judge-file = λ s starts. only-one _;
   list = λ s out. given _ out;
   lines = λ t answers out. given _ out;
   ryb-read = λ s. only-one _;

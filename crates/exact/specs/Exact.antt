@@ -19,7 +19,6 @@ use Rattle.rules.specs.Listing.{listing}
 use Rattle.rejudge.specs.Carried.{Carried}
 use Rattle.writer.specs.Answers.{Wrote}
 use Rattle.text.specs.Put.{Given}
-use Rattle.verdicts.specs.Judged.{judgedFile}
 use Rattle.listing.specs.Lines.{tableText}
 use Rattle.plain.specs.Codes.{codeOf}
 use Rattle.capi.specs.Columns.{JudgedFile}
@@ -49,8 +48,6 @@ pub record Promises : Type 0 where
   pub judge-all : (t : Table) (starts : List ℕ) → Exact (λ (r : AllJudged). r ≡ judgeAll t starts)
   -- rejudge
   pub judge-carried : (older newer : Table) → Exact (λ (r : Rejudged). Carried older newer r)
-  -- verdicts
-  pub judge-file : (s starts : List ℕ) → Exact (λ (r : AllJudged). r ≡ judgedFile s starts)
   -- listing
   pub list : (s out : List ℕ) → Exact (λ (r : ℕ × List ℕ). Given (listing s) out (r .0) (r .1))
   pub lines : (t : Table) (answers : List Answer) (out : List ℕ) → Exact (λ (r : ℕ × List ℕ). Given (tableText t answers) out (r .0) (r .1))

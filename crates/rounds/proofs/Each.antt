@@ -1,6 +1,7 @@
 -- Every task of lent columns, as a loop over places judges them: i places are passed, and place i has number i + 1. Assumes nothing.
 use mathlib.Core.Path.{_≡_, refl, sym, ap, _∙_}
 use mathlib.Core.Bool.{Bool, true, false, cond}
+use mathlib.Core.Logic.{_⊎_, inl, inr}
 use mathlib.Core.List.{List, map}
 use Prim.Native.Nat.{ℕ, _+_, _-_, _≤_, _<_}
 use native.Mathlib.Decide.{ℕ-discrete}
@@ -9,20 +10,23 @@ use lib.Dec.{eqb}
 use lib.ListN.{length, length-set, getD, set}
 use lib.Seq.{getD-set-same, getD-set-other}
 use borrow.Author.Tests.{eq-eqb, ne-eqb}
-use Rattle.laws.specs.Idioms.{Within, entry, upTo, filled}
-use Rattle.laws.proofs.Places.{getD-within}
+use Rattle.laws.specs.Idioms.{Within, entry, from, upTo, filled}
+use Rattle.laws.proofs.Places.{getD-within, place-next}
 use Rattle.rules.specs.declared.Refusal.{Refusal}
 use Rattle.rules.specs.declared.Answer.{Answer}
 use Rattle.rules.specs.declared.AllJudged.{AllJudged}
 use Rattle.rules.specs.Judgement.{misses}
-use Rattle.rules.specs.Chain.{accepted, isAccepted}
+use Rattle.rules.specs.Chain.{accepted, refused, isAccepted, _orElse_}
+use Rattle.rules.specs.Operations.{noAnswers}
+use Rattle.rules.proofs.First.{Left, left-all, left-hit, left-next, left-none, none-first, first-none}
 use Rattle.board.specs.declared.CoreCosts.{CoreCosts}
 use Rattle.board.specs.Costs.{noCosts}
 use Rattle.groups.specs.Grouped.{placesOn}
 use Rattle.groups.proofs.PlacesOn.{places-none, count-next}
 use Rattle.climb.specs.Terms.{Terms, termsOf}
 use Rattle.climb.specs.Run.{Ready, climbed}
-use Rattle.rounds.specs.Lent.{Lent, ownWith, placeAt, termsAt, climbedAt, Judgeable, firstLowered, firstAfter, noneJudged, answeredOr, judgedEach, judgedLent}
+use Rattle.rounds.specs.Lent.{Lent, ownWith, placeAt, termsAt, climbedAt, Judgeable, firstLowered, firstAfter, answeredOr, judgedLent}
+use Rattle.rounds.proofs.OnTime.{after}
 
 -- for each core the place of its next task
 pub record Nexts (core begins next : List ℕ) (i : ℕ) : Type 0 where
@@ -71,7 +75,7 @@ module _ (l : Lent) (i : ℕ) {place : ℕ} (at : place ≡ placeAt l i) {cost :
 pub cost-at : (l : Lent) → Judgeable l → (i : ℕ) → i < l .board .tasks → (d : CoreCosts) → getD (l .board .costs) (getD (l .core) i 0 - 1) d ≡ entry noCosts (l .board .costs) (getD (l .core) i 0)
 cost-at l j i here d = let core = j .core-in i here in getD-within (l .board .costs) (getD (l .core) i 0 - 1) d noCosts (omega (arith, core .low, core .high, j .costs-long))
 
--- ---- 14, or the answers
+-- ---- 13, or 14, or the answers
 
 abbrev pub lowers : Lent → List ℕ → ℕ → Bool
 lowers l starts k = climbedAt l starts k .high
@@ -79,20 +83,94 @@ lowers l starts k = climbedAt l starts k .high
 abbrev pub answerTo : Lent → List ℕ → ℕ → Answer
 answerTo l starts k = climbedAt l starts k .answer
 
+-- i places are judged and nothing was refused; or something was, and the loop is at its end
+pub record Running (l : Lent) (starts : List ℕ) (i end : ℕ) (refusal : Refusal) (answers : List Answer) : Type 0 where
+  pub end-is : end ≡ l .board .tasks
+  pub low : i ≤ l .board .tasks
+  pub passed : refusal ≡ accepted
+  pub none-late : isAccepted (firstAfter (l .board .tasks) (l .latest) starts) ≡ true
+  pub left : Left 14 (lowers l starts) (l .board .tasks) i
+  pub answers-are : answers ≡ filled 32 (misses 0) (map (answerTo l starts) (upTo i))
+
+pub record Stopped (l : Lent) (starts : List ℕ) (end : ℕ) (refusal : Refusal) (answers : List Answer) : Type 0 where
+  pub end-is : end ≡ 0
+  pub result : _≡_ {A = AllJudged} (record { refusal = refusal; answers = answers }) (judgedLent l starts)
+
+abbrev pub Judging : Lent → List ℕ → ℕ → ℕ → Refusal → List Answer → Type 0
+Judging l starts i end refusal answers = Running l starts i end refusal answers ⊎ Stopped l starts end refusal answers
+
 module _ (l : Lent) (starts : List ℕ) where
-  pub refused-each : (r : Refusal) → isAccepted r ≡ false → r ≡ firstLowered l starts → noneJudged r ≡ judgedEach l starts
-  unfolding noneJudged answeredOr
-  refused-each r refuses e = rw (← e, refuses)
+  abbrev tardy : Refusal
+  tardy = firstAfter (l .board .tasks) (l .latest) starts
 
-  pub answered-each : (answers : List Answer) → accepted ≡ firstLowered l starts → answers ≡ filled 32 (misses 0) (map (answerTo l starts) (upTo (l .board .tasks)))
-      → _≡_ {A = AllJudged} (record { refusal = accepted; answers = answers }) (judgedEach l starts)
+  tardy-none : isAccepted tardy ≡ true → tardy ≡ accepted
+  unfolding firstAfter
+  tardy-none e = first-none 13 (after (l .latest) starts) (l .board .tasks) (none-first 12 (after (l .latest) starts) (l .board .tasks) e)
+
+  judged-none : noAnswers ≡ filled 32 (misses 0) (map (answerTo l starts) (upTo 0))
+  unfolding from
+  judged-none = refl
+
+  refused-late : isAccepted tardy ≡ false → _≡_ {A = AllJudged} (record { refusal = tardy; answers = noAnswers }) (judgedLent l starts)
   unfolding answeredOr
-  answered-each answers e all = rw (← e, all)
-
-  -- 13 before them
-  pub refused-late : isAccepted (firstAfter (l .board .tasks) (l .latest) starts) ≡ false → noneJudged (firstAfter (l .board .tasks) (l .latest) starts) ≡ judgedLent l starts
-  unfolding noneJudged answeredOr
   refused-late h = simp h
 
-  pub none-late : isAccepted (firstAfter (l .board .tasks) (l .latest) starts) ≡ true → judgedEach l starts ≡ judgedLent l starts
-  none-late h = simp h
+  pub judging-starts : {end : ℕ} {refusal : Refusal} {answers : List Answer} → refusal ≡ tardy → end ≡ cond (isAccepted refusal) (l .board .tasks) 0 → answers ≡ noAnswers
+      → Judging l starts 0 end refusal answers
+  judging-starts {end} {refusal} {answers} is ends none = go (isAccepted tardy) refl
+    where
+      go : (b : Bool) → isAccepted tardy ≡ b → Judging l starts 0 end refusal answers
+      go true e =
+          inl (record {
+            end-is = ends ∙ rw (is, e);
+            low = omega arith;
+            passed = is ∙ tardy-none e;
+            none-late = e;
+            left = left-all _ _ _;
+            answers-are = none ∙ judged-none;
+          })
+      go false e = inr (record { end-is = ends ∙ rw (is, e); result = rw (is, none) (refused-late e) })
+
+  -- in the loop nothing was refused yet
+  pub still-running : {i end : ℕ} {refusal : Refusal} {answers : List Answer} → i < end → Judging l starts i end refusal answers → Running l starts i end refusal answers
+  still-running h (inl r) = r
+  still-running h (inr s) = absurd (omega (arith, s .end-is))
+
+  module _ {i end : ℕ} {refusal : Refusal} {answers : List Answer} (r : Running l starts i end refusal answers) where
+    not-late : answeredOr l starts (firstLowered l starts) ≡ judgedLent l starts
+    not-late = simp (r .none-late)
+
+    refused-high : _≡_ {A = AllJudged} (record { refusal = refused 14 (i + 1); answers = noAnswers }) (answeredOr l starts (refused 14 (i + 1)))
+    unfolding answeredOr
+    refused-high = refl
+
+    pub stops-high : i < l .board .tasks → lowers l starts (i + 1) ≡ true → {end′ : ℕ} {refusal′ : Refusal} {answers′ : List Answer} → end′ ≡ 0 → refusal′ ≡ refused 14 (i + 1) → answers′ ≡ noAnswers
+        → Judging l starts (i + 1) end′ refusal′ answers′
+    unfolding firstLowered
+    stops-high here high ends is none =
+        let hit : refused 14 (i + 1) ≡ firstLowered l starts = left-hit 14 (lowers l starts) (l .board .tasks) i (r .left) here high in
+        inr (record { end-is = ends; result = rw (is, none) (refused-high ∙ ap (answeredOr l starts) hit ∙ not-late) })
+
+    pub goes-on-low : i < l .board .tasks → i < 32 → lowers l starts (i + 1) ≡ false → {answer : Answer} → answer ≡ answerTo l starts (i + 1)
+        → Judging l starts (i + 1) end refusal (set answers i answer)
+    goes-on-low here few low is =
+        inl (record {
+          end-is = r .end-is;
+          low = omega arith;
+          passed = r .passed;
+          none-late = r .none-late;
+          left = left-next 14 (lowers l starts) (l .board .tasks) i (r .left) here low;
+          answers-are = rw (r .answers-are, is) (place-next (misses 0) (answerTo l starts) 32 i few);
+        })
+
+    all-answered : end ≤ i → _≡_ {A = AllJudged} (record { refusal = refusal; answers = answers }) (judgedLent l starts)
+    unfolding answeredOr firstLowered
+    all-answered done =
+        let all : i ≡ l .board .tasks = omega (arith, r .low, r .end-is) in
+        let none : accepted ≡ firstLowered l starts = left-none 14 (lowers l starts) (l .board .tasks) i (r .left) (omega (arith, r .end-is)) in
+        rw (r .passed, r .answers-are, all) (ap (answeredOr l starts) none ∙ not-late)
+
+  pub judging-done : {i end : ℕ} {refusal : Refusal} {answers : List Answer} → end ≤ i → Judging l starts i end refusal answers
+      → _≡_ {A = AllJudged} (record { refusal = refusal; answers = answers }) (judgedLent l starts)
+  judging-done h (inl r) = all-answered r h
+  judging-done h (inr s) = s .result

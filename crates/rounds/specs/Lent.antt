@@ -93,8 +93,5 @@ answeredOr l starts r =
     let answers = filled 32 (misses 0) (map (λ k. climbedAt l starts k .answer) (upTo (l .board .tasks))) in
     record { refusal = r; answers = cond (isAccepted r) answers noAnswers }
 
-abbrev pub judgedEach : Lent → List ℕ → AllJudged
-judgedEach l starts = answeredOr l starts (firstLowered l starts)
-
 abbrev pub judgedLent : Lent → List ℕ → AllJudged
 judgedLent l starts = answeredOr l starts (firstAfter (l .board .tasks) (l .latest) starts orElse firstLowered l starts)

@@ -1,9 +1,12 @@
 // Judgement of every task of lent columns: the rounds, and the refusals that a judgement meets on the way.
 ghost use mathlib.Core.Path.{_≡_};
+ghost use mathlib.Core.Bool.{cond};
 ghost use Prim.Native.Nat.{_≤_};
 ghost use lib.ListN.{getD};
 ghost use Rattle.rules.specs.Judgement.{misses};
-ghost use Rattle.rounds.specs.Lent.{Lent, ownWith, lentOf, OnTime, Judgeable, firstAfter, judgedEach, judgedLent, noneJudged};
+ghost use Rattle.rules.specs.Chain.{isAccepted};
+ghost use Rattle.rules.specs.Operations.{noAnswers};
+ghost use Rattle.rounds.specs.Lent.{Lent, ownWith, lentOf, Judgeable, firstAfter, judgedLent, noneJudged};
 use board::CoreCosts;
 use climb::Own;
 use rules::AllJudged;
@@ -69,56 +72,32 @@ pub fn missed() -> Answer
     }
 }
 
+// No answer.
+pub fn no_answers() -> [Answer; 32]
+    ensures { λ r. ⌜ r ≡ noAnswers ⌝ }
+{
+    let miss = missed();
+    let none = [miss; 32];
+    none
+}
+
 // A refused judgement of all.
 pub fn none_judged(refusal: Refusal) -> AllJudged
     ensures { λ r. ⌜ r ≡ noneJudged refusal ⌝ }
 {
-    let miss = missed();
-    let answers = [miss; 32];
+    let answers = no_answers();
     AllJudged { refusal, answers }
 }
 
-// Every task, from starts none of which is late: 14 with the first whose start F lowers, or the answers.
-fn judge_each(
-    board: Priced,
-    core: &[u8; 32],
-    latest: &[u64; 32],
-    starts: &[u64; 32],
-    from: &[usize; 9],
-    spans: &[u64; 33],
-    costs: &[u64; 33],
-    asks: &[u64; 33],
-) -> AllJudged
-    ghost { Lent }
-    requires { λ l. ⌜ lentOf board (now core) (now latest) (now from) (now spans) (now costs) (now asks) ≡ l ⌝ }
-    requires { λ l. ⌜ Judgeable l ⌝ }
-    requires { λ l. ⌜ OnTime (board .tasks) (now latest) (now starts) ⌝ }
-    ensures { λ l r. ⌜ r ≡ judgedEach l (now (starts .entry)) ⌝ }
+// n where nothing is refused, else 0.
+fn unless_refused(refusal: Refusal, n: usize) -> usize
+    ensures { λ r. ⌜ r ≡ cond (isAccepted refusal) n 0 ⌝ }
 {
-    let miss = missed();
-    let mut answers = [miss; 32];
-    let invs = counts::inverses(board.tasks, spans);
-    let mut next = *from;
-    let mut i: usize = 0;
-    while i < board.tasks {
-        let p = (core[i] as usize) - 1;
-        let place = next[p];
-        next[p] = place + 1;
-        let cost = board.costs[p];
-        let own = own_at(cost, board.cores, from[p], place, latest[i], costs, asks);
-        let climbed = climb::settle(own, from, spans, &invs, costs, asks, starts[i]);
-        if climbed.high {
-            return none_judged(refused(14, (i as u8) + 1));
-        }
-        let answer = climbed.answer;
-        answers[i] = answer;
-        i += 1;
-    }
-    let refusal = refused(0, 0);
-    AllJudged { refusal, answers }
+    if refusal.number == 0 { n } else { 0 }
 }
 
-// 13 with the first start that is late; else 14 with the first that F lowers; else every task's answer.
+// 13 with the first start that is late; else 14 with the first that F lowers; else every task's answer. There is one way out, so that the answers are
+// not copied piece by piece.
 pub fn judge_lent(
     board: Priced,
     core: &[u8; 32],
@@ -134,9 +113,28 @@ pub fn judge_lent(
     requires { λ l. ⌜ Judgeable l ⌝ }
     ensures { λ l r. ⌜ r ≡ judgedLent l (now (starts .entry)) ⌝ }
 {
-    let tardy = late(board.tasks, latest, starts);
-    if tardy.number != 0 {
-        return none_judged(tardy);
+    let mut answers = no_answers();
+    let mut refusal = late(board.tasks, latest, starts);
+    let mut end = unless_refused(refusal, board.tasks);
+    let invs = counts::inverses(board.tasks, spans);
+    let mut next = *from;
+    let mut i: usize = 0;
+    while i < end {
+        let p = (core[i] as usize) - 1;
+        let place = next[p];
+        next[p] = place + 1;
+        let cost = board.costs[p];
+        let own = own_at(cost, board.cores, from[p], place, latest[i], costs, asks);
+        let climbed = climb::settle(own, from, spans, &invs, costs, asks, starts[i]);
+        if climbed.high {
+            refusal = refused(14, (i as u8) + 1);
+            answers = no_answers();
+            end = 0;
+        } else {
+            let answer = climbed.answer;
+            answers[i] = answer;
+        }
+        i += 1;
     }
-    judge_each(board, core, latest, starts, from, spans, costs, asks)
+    AllJudged { refusal, answers }
 }

@@ -1,7 +1,7 @@
 -- What is known of an accepted file, and of the table that it is. Assumes nothing.
 use Prim.Native.Nat.{ℕ, _+_, _-_, _≤_, _<_}
 use mathlib.Core.Path.{_≡_, refl}
-use mathlib.Core.Bool.{true, false}
+use mathlib.Core.Bool.{true}
 use mathlib.Core.List.{List}
 use native.Mathlib.Omega.{arith}
 use lib.ListN.{getD}
@@ -10,11 +10,9 @@ use Rattle.rules.specs.Chain.{isAccepted}
 use Rattle.rules.specs.Tasks.{noTask, taskOf}
 use Rattle.rules.specs.Sound.{Sound}
 use Rattle.rules.specs.File.{tasksIn, decode}
-use Rattle.rules.specs.Operations.{checkFile, judgeAll}
+use Rattle.rules.specs.Operations.{checkFile}
 use Rattle.rules.proofs.Accepted.{sound}
 use Rattle.rules.proofs.Reading.{decoded-accepted}
-use Rattle.rounds.specs.Lent.{noneJudged}
-use Rattle.verdicts.specs.Judged.{judgedFile}
 
 module _ (s : List ℕ) where
   pub tasks-are : decode s .tasks ≡ tasksIn s
@@ -25,14 +23,6 @@ module _ (s : List ℕ) where
   pub task-in-place : {task : Task} (i : ℕ) → task ≡ taskOf (decode s) (i + 1) → task ≡ getD (decode s .task) i noTask
   task-in-place i e = let less : i + 1 - 1 ≡ i = omega arith in rw less at e
 
-  pub file-refused : isAccepted (checkFile s) ≡ false → (starts : List ℕ) → noneJudged (checkFile s) ≡ judgedFile s starts
-  unfolding judgedFile
-  file-refused h starts = simp h
-
   module _ (passed : isAccepted (checkFile s) ≡ true) where
     pub file-sound : Sound (decode s)
     file-sound = sound (decode s) (decoded-accepted s passed)
-
-    pub file-judged : (starts : List ℕ) → judgeAll (decode s) starts ≡ judgedFile s starts
-    unfolding judgedFile
-    file-judged starts = simp passed

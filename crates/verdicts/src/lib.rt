@@ -1,17 +1,16 @@
-// A table file judged from its bytes: the figures go into lent columns, and no table is made.
+// The tasks of an accepted table file judged from its bytes: the figures go into lent columns, and no table is made.
 ghost use mathlib.Core.Path.{_≡_};
 ghost use mathlib.Core.Bool.{true};
 ghost use lib.ListN.{length};
 ghost use Rattle.rules.specs.declared.Table.{Table};
 ghost use Rattle.rules.specs.Chain.{isAccepted};
 ghost use Rattle.rules.specs.File.{decode};
-ghost use Rattle.rules.specs.Operations.{checkFile};
+ghost use Rattle.rules.specs.Operations.{checkFile, judgeAll};
 ghost use Rattle.groups.specs.Grouped.{Low};
 ghost use Rattle.groups.specs.Lanes.{Lanes, Columns};
 ghost use Rattle.rounds.specs.Lent.{lentOf};
 ghost use Rattle.columns.specs.Numbered.{pricedOf};
 ghost use Rattle.columns.specs.Held.{Held};
-ghost use Rattle.verdicts.specs.Judged.{judgedFile};
 use rounds::Priced;
 use rules::AllJudged;
 
@@ -100,14 +99,11 @@ fn laid(
     board
 }
 
-// 1 to 11, then 13 and 14, or every task's answer.
-pub fn judge(file: &[u8], starts: [u64; 32]) -> AllJudged
-    ensures { λ r. ⌜ r ≡ judgedFile (now (file .entry)) starts ⌝ }
+// 13 with the first late start, 14 with the first whose start F lowers, or every task's answer.
+pub fn judge_accepted(file: &[u8], starts: [u64; 32]) -> AllJudged
+    requires { ⌜ isAccepted (checkFile (now file)) ≡ true ⌝ }
+    ensures { λ r. ⌜ r ≡ judgeAll (decode (now (file .entry))) starts ⌝ }
 {
-    let refusal = file::check(file);
-    if refusal.number != 0 {
-        return rounds::none_judged(refusal);
-    }
     let mut core = [0u8; 32];
     let mut latest = [0u64; 32];
     let mut from = [0usize; 9];

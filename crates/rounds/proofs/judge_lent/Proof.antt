@@ -1,25 +1,106 @@
--- 13, then 14, or the answers. Assumes nothing.
+-- 13, then 14, or every task's answer. Assumes nothing.
 use borrow.Author.Needs.{needs}
-use mathlib.Core.Path.{_∙_, ap}
-use Rattle.rules.proofs.Chain.{passes, refuses}
-use Rattle.rounds.specs.Lent.{noneJudged}
+use mathlib.Core.Path.{_≡_, refl, sym, ap, _∙_}
+use mathlib.Core.Logic.{⊎-elim}
+use Prim.Native.Nat.{ℕ, _+_, _-_, _≤_, _<_}
+use native.Mathlib.Omega.{arith}
+use lib.ListN.{getD}
+use Rattle.laws.specs.Idioms.{Within}
+use Rattle.climb.specs.declared.Climbed.{Climbed}
+use Rattle.rounds.specs.Lent.{Lent, lentOf, placeAt, climbedAt}
 use Rattle.rounds.proofs.OnTime.{on-time}
-use Rattle.rounds.proofs.Each.{refused-late, none-late}
+use Rattle.rounds.proofs.Each.{Nexts, nexts-none, nexts-next, next-at, here-ready, here-gives, cost-at, Judging, Running, judging-starts, still-running, stops-high, goes-on-low, judging-done}
 use Rattle.rounds.proofs.judge_lent.Statement.{statement}
 use Rattle.rounds.proofs.judge_lent.Tie as tie
 
-returns : tie.Need-returns
-returns c =
-    let late = c .before .before .before .late .ensures in
-    c .none-judged .ensures ∙ ap noneJudged late ∙ refused-late _ _ (refuses late (c .before .if1 .taken))
+abbrev Inv-loop : tie.InvT-loop
+Inv-loop core latest starts from spans costs asks board answers₀ refusal₀ end₀ invs next₀ i₀ answers refusal end next i =
+    Judging (lentOf board core latest from spans costs asks) starts i end refusal answers × Nexts core from next i
 
-judge-each-requires : tie.Need-judge-each-requires
-judge-each-requires c κs =
-    let a = c .before .before .before .args in
-    (c .before .before .before .pre, on-time (a .latest .now) (a .starts .now) (a .board .tasks) (passes (c .before .before .late .ensures) (c .if1 .left)))
+abbrev μ-loop : tie.MeasureT-loop
+μ-loop core latest starts from spans costs asks board answers₀ refusal₀ end₀ invs next₀ i₀ answers refusal end next i = end - i
 
-returns-2 : tie.Need-returns-2
-returns-2 c = c .judge-each .ensures ∙ none-late _ _ (passes (c .before .before .before .late .ensures) (c .before .if1 .left))
+-- what is lent
+module _ (s : tie.Start Inv-loop μ-loop) where
+  abbrev lent : Lent
+  lent = lentOf (s .args .t1) (s .args .core .now) (s .args .latest .now) (s .args .from .now) (s .args .spans .now) (s .args .costs .now) (s .args .asks .now)
+
+loop-holds : tie.Need-loop-holds Inv-loop μ-loop
+loop-holds c =
+    let s = c .before .before .before .before .before in
+    (judging-starts (lent s) (s .args .starts .now) (c .before .before .before .late .ensures) (c .before .before .unless-refused .ensures) (c .before .before .before .before .no-answers .ensures), nexts-none _ (s .pre .long))
+
+-- the task in the loop's place
+module _ (c : tie.In-loop Inv-loop μ-loop) where
+  abbrev start : tie.Start Inv-loop μ-loop
+  start = c .before .before .before .before .before .before .before
+
+  abbrev i : ℕ
+  i = c .before .loop .i
+
+  runs : Running (lent start) (start .args .starts .now) i (c .before .loop .end) (c .before .loop .refusal) (c .before .loop .answers)
+  runs = still-running (lent start) (start .args .starts .now) (c .loop-test .taken) (c .before .loop .inv .0)
+
+  here : i < start .args .t1 .tasks
+  here = omega (arith, c .loop-test .taken, runs .end-is)
+
+  few : i < 32
+  few = omega (arith, here, start .pre .few)
+
+  core-in : Within 1 8 (getD (start .args .core .now) i 0)
+  core-in = start .pre .core-in i here
+
+  abbrev place : ℕ
+  place = getD (c .before .loop .next) (getD (start .args .core .now) i 0 - 1) 0
+
+  stands : place ≡ placeAt (lent start) i
+  unfolding placeAt
+  stands = next-at (start .args .core .now) i core-in (c .before .loop .inv .1)
+
+  place-low : place ≤ 32
+  place-low = omega (arith, stands, start .pre .place-low i here)
+
+settle-requires : tie.Need-settle-requires Inv-loop μ-loop
+settle-requires c κs =
+    let p = c .before .before .before .before .before .before .before in
+    let s = start p in (
+      c .before .before .before .before .before .before .before .before .before .before .inverses .ensures,
+      rw (c .before .before .own-at .ensures) (here-ready (lent s) (i p) (stands p) (cost-at (lent s) (s .pre) (i p) (here p) _) (s .pre) _ (here p) (on-time (s .args .latest .now) (s .args .starts .now) (s .args .t1 .tasks) (runs p .none-late) .each (i p) (here p))),
+    )
+
+gives : (c : tie.After-settle Inv-loop μ-loop) → let p = c .before .before .before .before .before .before .before .before in c .settle .result ≡ climbedAt (lent (start p)) (start p .args .starts .now) (i p + 1)
+gives c =
+    let p = c .before .before .before .before .before .before .before .before in
+    let s = start p in
+    c .settle .ensures
+    ∙ rw (c .before .before .before .own-at .ensures) (here-gives (lent s) (i p) (stands p) (cost-at (lent s) (s .pre) (i p) (here p) _) (s .args .starts .now))
+
+loop-less : tie.Need-loop-less Inv-loop μ-loop
+loop-less c =
+    let test = c .before .before .before .before .before .before .before .before .before .loop-test .taken in
+    ⊎-elim (λ w. omega (arith, test, w .5)) (λ w. omega (arith, test, w .4)) (c .if1 .came)
+
+loop-again : tie.Need-loop-again Inv-loop μ-loop
+loop-again c =
+    let p = c .before .before .before .before .before .before .before .before .before in
+    let s = start p in
+    let high = ap (λ (r : Climbed). r .high) (gives (c .before)) in (
+      ⊎-elim
+          (λ w. stops-high (lent s) (s .args .starts .now) (runs p) (here p) (sym high ∙ w .0 .taken) (w .5) (w .4 ∙ w .1 .ensures) (w .3 ∙ w .2 .ensures))
+          (λ w. rw (w .2, w .3, w .4) (goes-on-low (lent s) (s .args .starts .now) (runs p) (here p) (few p) (sym high ∙ w .0 .left) (ap (λ (r : Climbed). r .answer) (gives (c .before)))))
+          (c .if1 .came),
+      nexts-next (s .args .core .now) (i p) (core-in p) (p .before .loop .inv .1) refl,
+    )
 
 pub judge-lent-spec : {M : Type 1} → statement M
-judge-lent-spec = tie.close (tie.spec (λ c κs. search needs) (λ c κs. search needs) returns judge-each-requires returns-2)
+judge-lent-spec =
+    tie.close
+    (tie.spec Inv-loop μ-loop (λ c κs. search needs) (λ c κs. c .before .pre .few) (λ c κs. search needs) (λ c κs. omega (arith, c .before .before .before .pre .few)) loop-holds few
+    (λ c. omega (arith, core-in (c .before) .high)) (λ c. core-in (c .before) .low) (λ c. omega (arith, core-in (c .before) .high)) (λ c. omega (arith, core-in (c .before) .high))
+    (λ c. omega (arith, place-low (c .before))) (λ c. omega (arith, core-in (c .before) .high)) (λ c. omega (arith, core-in (c .before) .high)) (λ c. omega (arith, core-in (c .before) .high))
+    (λ c. omega (arith, core-in (c .before) .low, core-in (c .before) .high)) (λ c. omega (arith, core-in (c .before .before) .high)) (λ c. omega (arith, core-in (c .before .before) .high))
+    (λ c. omega (arith, few (c .before .before .before))) (λ c. few (c .before .before .before)) (λ c κs. place-low (c .before .before .before .before))
+    (λ c. omega (arith, few (c .before .before .before .before .before .before))) (λ c. few (c .before .before .before .before .before .before)) settle-requires
+    (λ c. omega (arith, few (c .before .before .before .before .before .before .before .before .before))) (λ c. omega (arith, few (c .before .before .before .before .before .before .before .before .before))) (λ c κs. search needs) (λ c κs. search needs)
+    (λ c. omega (arith, few (c .before .before .before .before .before .before .before .before .before .before))) (λ c. few (c .before .before .before .before .before .before .before .before .before .before)) (λ c. omega (arith, few (c .before .before .before .before .before .before .before .before .before))) loop-less loop-again
+    (λ c. judging-done _ _ (omega arith) (c .before .loop .inv .0)))
