@@ -36,7 +36,7 @@ fn by_number(verdict: Verdict) -> u8
     ensures { λ r. ⌜ r ≡ byNumber verdict ⌝ }
 {
     match verdict {
-        Verdict::Misses => 0,
+        Verdict::Misses => 0u8,
         Verdict::Holds(_, by) => match by {
             Delay::Request => 1,
             Delay::Job => 2,
