@@ -11,11 +11,10 @@ use Rattle.rules.specs.File.{tasksIn, decode}
 use Rattle.rules.specs.declared.Refusal.{Refusal}
 use Rattle.rules.specs.declared.AllJudged.{AllJudged}
 use Rattle.rules.specs.Operations.{checkFile, answersFrom, judgeAll}
-use Rattle.rules.proofs.Accepted.{sound}
-use Rattle.rules.proofs.Reading.{decoded-accepted}
+use Rattle.file.proofs.Reading.{file-counts}
 use Rattle.rules.proofs.Chain.{passes, refuses, first-refuses, second-decides}
 use Rattle.plain.specs.Codes.{codeOf}
-use Rattle.capi.specs.Columns.{checkJudging, answersOf, columnAfter, JudgedFile}
+use Rattle.capi.specs.JudgedFile.{checkJudging, answersOf, columnAfter, JudgedFile}
 use Rattle.plain.specs.Stored.{Stored}
 use Rattle.laws.proofs.Filled.{take-filled}
 use Rattle.rules.proofs.LentStarts.{lent-starts}
@@ -24,8 +23,8 @@ use Rattle.rules.proofs.LentStarts.{lent-starts}
 
 module _ (s starts : List ℕ) where
   -- the starts as the rounds get them
-  abbrev pub lent : List ℕ
-  lent = filled 32 0 (take 32 starts)
+  abbrev pub lentStarts : List ℕ
+  lentStarts = filled 32 0 (take 32 starts)
 
   by-file : isAccepted (checkFile s) ≡ false → checkJudging s starts ≡ checkFile s
   unfolding checkJudging
@@ -36,15 +35,11 @@ module _ (s starts : List ℕ) where
     unfolding checkJudging judgeAll
     by-starts = second-decides (checkFile s) _ file
 
-    pub few-tasks : tasksIn s ≤ 32
+    lent-judged : judgeAll (decode s) lentStarts ≡ judgeAll (decode s) starts
     unfolding decode
-    few-tasks = sound (decode s) (decoded-accepted s file) .tasks-in .high
+    lent-judged = lent-starts (decode s) starts (file-counts s file .1)
 
-    lent-judged : judgeAll (decode s) lent ≡ judgeAll (decode s) starts
-    unfolding decode
-    lent-judged = lent-starts (decode s) starts few-tasks
-
-    as-judged : {r : AllJudged} → r ≡ judgeAll (decode s) lent → r .refusal ≡ judgeAll (decode s) starts .refusal
+    as-judged : {r : AllJudged} → r ≡ judgeAll (decode s) lentStarts → r .refusal ≡ judgeAll (decode s) starts .refusal
     as-judged is = rw (is, lent-judged)
 
   -- the places after the tasks hold no answer
@@ -74,7 +69,7 @@ module _ (s starts : List ℕ) {bounds rounds by : List ℕ} where
       let by-file = by-file s starts (refuses is refused) in
       rw (is ∙ sym by-file) (refused-leaves (rw by-file (refuses is refused)))
 
-  module _ (file : isAccepted (checkFile s) ≡ true) {r : AllJudged} (is : r ≡ judgeAll (decode s) (lent s starts)) where
+  module _ (file : isAccepted (checkFile s) ≡ true) {r : AllJudged} (is : r ≡ judgeAll (decode s) (lentStarts s starts)) where
     pub start-refused : (r .refusal .number ≡ 0 → ⊥) → JudgedFile s starts bounds rounds by (codeOf (r .refusal)) bounds rounds by
     start-refused refused =
         let decided : r .refusal ≡ checkJudging s starts = as-judged s starts file is ∙ sym (by-starts s starts file) in

@@ -14,7 +14,7 @@ use Rattle.rules.specs.File.{formIn, coresIn}
 use Rattle.rules.specs.Operations.{reading, checkView}
 use Rattle.whole.proofs.Places.{sets-limit, after-sets}
 use Rattle.plain.specs.Codes.{codeOf}
-use Rattle.capi.specs.Columns.{JudgedFile}
+use Rattle.capi.specs.JudgedFile.{JudgedFile}
 use Rattle.capi.specs.Record.{recordPlace}
 use Rattle.capi.proofs.Record.{record-there}
 

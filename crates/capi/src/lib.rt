@@ -4,7 +4,7 @@ ghost use Rattle.rules.specs.Operations.{checkFile};
 ghost use Rattle.rules.specs.Listing.{listing};
 ghost use Rattle.text.specs.Put.{Given};
 ghost use Rattle.plain.specs.Codes.{codeOf};
-ghost use Rattle.capi.specs.Columns.{JudgedFile};
+ghost use Rattle.capi.specs.JudgedFile.{JudgedFile};
 ghost use Rattle.capi.specs.Record.{recordPlace};
 
 // The refusal of a table file, 0 where it is accepted.

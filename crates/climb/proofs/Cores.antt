@@ -10,21 +10,21 @@ use Rattle.climb.specs.declared.Own.{Own}
 use Rattle.climb.specs.Terms.{chargeOf, Group, Charged}
 
 -- what the cores before place q cost: at most so much for each of their tasks
-pub record Added (own : Own) (starts periods asks : List ℕ) (t q s : ℕ) : Type 0 where
-  pub is : s ≡ sumBelow (chargeOf own starts periods asks t) q
-  pub high : s ≤ getD starts q 0 * (10001 * (2 * 10 ^ 13))
+pub record Added (own : Own) (begins periods asks : List ℕ) (t q s : ℕ) : Type 0 where
+  pub is : s ≡ sumBelow (chargeOf own begins periods asks t) q
+  pub high : s ≤ getD begins q 0 * (10001 * (2 * 10 ^ 13))
   pub fits : s ≤ 32 * (10001 * (2 * 10 ^ 13))
 
-module _ {own : Own} {starts periods asks : List ℕ} {t : ℕ} where
-  pub added-none : Added own starts periods asks t 0 0
+module _ {own : Own} {begins periods asks : List ℕ} {t : ℕ} where
+  pub added-none : Added own begins periods asks t 0 0
   unfolding sumBelow
   added-none = record { is = refl; high = zero-le; fits = zero-le }
 
-  pub added-next : {q s r : ℕ} → Added own starts periods asks t q s → Group own starts periods asks q
-      → Charged (getD starts q 0) (getD starts (q + 1) 0) periods asks (getD (own .weight) q 0) t r → Added own starts periods asks t (q + 1) (s + r)
+  pub added-next : {q s r : ℕ} → Added own begins periods asks t q s → Group own begins periods asks q
+      → Charged (getD begins q 0) (getD begins (q + 1) 0) periods asks (getD (own .weight) q 0) t r → Added own begins periods asks t (q + 1) (s + r)
   unfolding chargeOf
   added-next {q} so g more = record {
-    is = rw (below-next (chargeOf own starts periods asks t) q) (omega (arith, so .is, more .is));
+    is = rw (below-next (chargeOf own begins periods asks t) q) (omega (arith, so .is, more .is));
     high = omega (arith, so .high, more .high, g .slots .rises);
     fits = omega (arith, so .high, more .high, g .slots .rises, g .slots .few);
   }

@@ -36,7 +36,7 @@ module _ (t u : ℕ) (h : t ≤ u) (m : Terms) where
   job-rises : jobOf m t ≤ jobOf m u
   unfolding jobOf chargeOf
   job-rises =
-      below-mono _ _ (m .own .cores) (λ q. mul-le-mul-right _ (asked-mono 1 (getD (m .starts) q 0) (getD (m .starts) (q + 1) 0) (m .periods) (m .asks) t u (λ period. ceil-rises period h)))
+      below-mono _ _ (m .own .cores) (λ q. mul-le-mul-right _ (asked-mono 1 (getD (m .begins) q 0) (getD (m .begins) (q + 1) 0) (m .periods) (m .asks) t u (λ period. ceil-rises period h)))
 
   time-rises : timeOf m t ≤ timeOf m u
   unfolding timeOf

@@ -16,23 +16,23 @@ pub record Charged (a e : ℕ) (periods asks : List ℕ) (weight t r : ℕ) : Ty
   pub is : r ≡ askedBy 1 t a e periods asks * weight
   pub high : r ≤ (e - a) * (10001 * (2 * 10 ^ 13))
 
--- ---- the tasks of all cores, core after core: those of the core in place q are in places starts[q] to starts[q + 1]
+-- ---- the tasks of all cores, core after core: those of the core in place q are in places begins[q] to begins[q + 1]
 
-pub record Group (own : Own) (starts periods asks : List ℕ) (q : ℕ) : Type 0 where
-  pub slots : Slots (10 ^ 6) (getD starts q 0) (getD starts (q + 1) 0) periods asks
+pub record Group (own : Own) (begins periods asks : List ℕ) (q : ℕ) : Type 0 where
+  pub slots : Slots (10 ^ 6) (getD begins q 0) (getD begins (q + 1) 0) periods asks
   pub weight-high : getD (own .weight) q 0 ≤ 2 * 10 ^ 7
 
-pub record Groups (own : Own) (starts periods asks : List ℕ) : Type 0 where
+pub record Groups (own : Own) (begins periods asks : List ℕ) : Type 0 where
   pub few : own .cores ≤ 8
-  pub each : (q : ℕ) → q < own .cores → Group own starts periods asks q
+  pub each : (q : ℕ) → q < own .cores → Group own begins periods asks q
 
 -- what the core in place q delays a job in t
 unfoldable pub chargeOf : Own → List ℕ → List ℕ → List ℕ → ℕ → ℕ → ℕ
-chargeOf own starts periods asks t q = askedBy 1 t (getD starts q 0) (getD starts (q + 1) 0) periods asks * getD (own .weight) q 0
+chargeOf own begins periods asks t q = askedBy 1 t (getD begins q 0) (getD begins (q + 1) 0) periods asks * getD (own .weight) q 0
 
 -- below the largest u64
-pub record Delayed (own : Own) (starts periods asks : List ℕ) (t r : ℕ) : Type 0 where
-  pub is : r ≡ sumBelow (chargeOf own starts periods asks t) (own .cores)
+pub record Delayed (own : Own) (begins periods asks : List ℕ) (t r : ℕ) : Type 0 where
+  pub is : r ≡ sumBelow (chargeOf own begins periods asks t) (own .cores)
   pub high : r ≤ 32 * (10001 * (2 * 10 ^ 13))
 
 -- ---- the terms of one task's equation
@@ -40,13 +40,13 @@ pub record Delayed (own : Own) (starts periods asks : List ℕ) (t r : ℕ) : Ty
 -- its own figures; where each core's tasks begin; T, C and H of the tasks, core after core
 pub record Terms : Type 0 where
   pub own : Own
-  pub starts : List ℕ
+  pub begins : List ℕ
   pub periods : List ℕ
   pub execs : List ℕ
   pub asks : List ℕ
 
 abbrev pub termsOf : Own → List ℕ → List ℕ → List ℕ → List ℕ → Terms
-termsOf own starts periods execs asks = record { own = own; starts = starts; periods = periods; execs = execs; asks = asks }
+termsOf own begins periods execs asks = record { own = own; begins = begins; periods = periods; execs = execs; asks = asks }
 
 -- what the higher tasks of the core ask for: those from the first of the core to the task itself
 abbrev pub aboveOf : Terms → List ℕ → ℕ → ℕ
@@ -57,7 +57,7 @@ unfoldable pub requestOf : Terms → ℕ → ℕ
 requestOf m t = m .own .delay * (m .own .requests + aboveOf m (m .asks) t)
 
 unfoldable pub jobOf : Terms → ℕ → ℕ
-jobOf m t = sumBelow (chargeOf (m .own) (m .starts) (m .periods) (m .asks) t) (m .own .cores)
+jobOf m t = sumBelow (chargeOf (m .own) (m .begins) (m .periods) (m .asks) t) (m .own .cores)
 
 -- "F(t) = C + sum over higher tasks j of core p of (t/Tj rounded up) times Cj + the smaller of request and job."
 unfoldable pub timeOf : Terms → ℕ → ℕ
@@ -75,4 +75,4 @@ pub record Fair (m : Terms) : Type 0 where
   pub requests-high : m .own .requests ≤ 10 ^ 6
   pub execs : Slots (10 ^ 12) (m .own .first) (m .own .place) (m .periods) (m .execs)
   pub asks : Slots (10 ^ 6) (m .own .first) (m .own .place) (m .periods) (m .asks)
-  pub groups : Groups (m .own) (m .starts) (m .periods) (m .asks)
+  pub groups : Groups (m .own) (m .begins) (m .periods) (m .asks)

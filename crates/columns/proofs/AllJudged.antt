@@ -41,7 +41,7 @@ module _ (t : Table) (passed : isAccepted (checkTable t) ≡ true) {l : Lent} (o
   unfolding firstAfter lateStart
   late-is =
       rw (tasks-are t (sound t passed) o)
-      (first-same 13 (t .tasks) (λ k low high. ap (λ (d : ℕ). ltb d (entry 0 starts k)) (o .lanes .latest-is (k - 1) (omega arith))))
+      (first-same 13 (t .tasks) (λ k low high. ap (λ (d : ℕ). ltb d (entry 0 starts k)) (o .per-task .latest-is (k - 1) (omega arith))))
 
   lowered-is : firstLowered l starts ≡ first 14 (λ k. highStart t k (entry 0 starts k)) (t .tasks)
   unfolding firstLowered climbedFor

@@ -21,7 +21,7 @@ use Rattle.rules.specs.Sound.{Sound, SoundTask}
 use Rattle.rules.proofs.SoundTasks.{tasks-there}
 use Rattle.board.specs.Costs.{costsOf, noCosts, allCosts}
 use Rattle.groups.specs.Grouped.{placesOn, Ordered}
-use Rattle.groups.specs.Lanes.{Lanes, InOrder, Columns}
+use Rattle.groups.specs.Columns.{PerTask, InOrder, Columns}
 use Rattle.groups.proofs.PlacesOn.{places-none, places-next, places-few, places-first, own-within, own-place}
 use Rattle.climb.specs.Terms.{termsOf}
 use Rattle.climb.specs.Run.{Ready, climbed}
@@ -45,7 +45,7 @@ module _ (t : Table) (s : Sound t) {l : Lent} (o : Held t l) where
   on-places : (q i : ℕ) → i ≤ t .tasks → those (isOn q) (take i (t .task)) ≡ map (taskIn t) (placesOn (l .core) q i)
   on-places q zero h = rw (places-none (l .core) q)
   on-places q (suc i) h =
-      rw (take-suc (t .task) i noTask (omega (arith, tasks-there t s)), those-append, on-places q i (omega arith), ← add-one i, places-next (l .core) q i, map-append, one-of, o .lanes .core-is i (omega arith))
+      rw (take-suc (t .task) i noTask (omega (arith, tasks-there t s)), those-append, on-places q i (omega arith), ← add-one i, places-next (l .core) q i, map-append, one-of, o .per-task .core-is i (omega arith))
 
   task-sound : (i : ℕ) → i < t .tasks → SoundTask (t .cores) (taskIn t i)
   task-sound i here = let less : i + 1 - 1 ≡ i = omega arith in rw less at (s .task-sound (i + 1) (omega arith) (omega arith))
@@ -95,7 +95,7 @@ module _ (t : Table) (s : Sound t) {l : Lent} (o : Held t l) where
     first = getD (l .begins) (own - 1) 0
 
     own-is : getD (l .core) i 0 ≡ own
-    own-is = o .lanes .core-is i here
+    own-is = o .per-task .core-is i here
 
     own-in : Within 1 (t .cores) own
     own-in = task-sound i here .core-in
@@ -157,12 +157,12 @@ module _ (t : Table) (s : Sound t) {l : Lent} (o : Held t l) where
 
     terms-are : termsAt l i ≡ termsFor t (i + 1) first (placeAt l i) (l .begins) (l .periods) (l .execs) (l .asks)
     terms-are =
-        rw (core-is, less, own-figure (o .columns .execs), own-figure (o .columns .requests), o .lanes .latest-is i here, own-is, cost-is)
+        rw (core-is, less, own-figure (o .columns .execs), own-figure (o .columns .requests), o .per-task .latest-is i here, own-is, cost-is)
         (ap (λ (b : Priced). termsOf (ownWith (C (taskIn t i)) (H (taskIn t i)) (latest (taskIn t i)) (costsOf t own) (b .cores) first (placeAt l i)) (l .begins) (l .periods) (l .execs) (l .asks)) (o .board-is))
 
     of-ready : (start : ℕ) → start ≤ getD (l .latest) i 0 → Ready (termsAt l i) start
     of-ready start fits =
-        rw terms-are (ready-for t (i + 1) grouped above s (omega arith) (omega arith) start (rw less (rw (o .lanes .latest-is i here) at fits)))
+        rw terms-are (ready-for t (i + 1) grouped above s (omega arith) (omega arith) start (rw less (rw (o .per-task .latest-is i here) at fits)))
 
     pub of-climbed : (start : ℕ) → climbed (termsAt l i) start ≡ climbedFor t (i + 1) start
     of-climbed start = rw terms-are (climbed-same t (i + 1) grouped above start)

@@ -33,15 +33,15 @@ use Rattle.rounds.specs.Lent.{ownWith}
 use Rattle.columns.specs.Numbered.{climbedFor}
 use Rattle.columns.proofs.FromPlace.{From, asked-is, slots-are}
 
--- the tasks of the core in place q, which has number q + 1, stand in places starts[q] to starts[q + 1]
-pub record GroupAt (t : Table) (starts spans costs asks : List ℕ) (q : ℕ) : Type 0 where
-  pub next : getD starts (q + 1) 0 ≡ getD starts q 0 + length (tasksOn t (q + 1))
-  pub few : getD starts (q + 1) 0 ≤ 32
-  pub periods : From T (tasksOn t (q + 1)) (getD starts q 0) spans
-  pub requests : From H (tasksOn t (q + 1)) (getD starts q 0) asks
+-- the tasks of the core in place q, which has number q + 1, stand in places begins[q] to begins[q + 1]
+pub record GroupAt (t : Table) (begins spans costs asks : List ℕ) (q : ℕ) : Type 0 where
+  pub next : getD begins (q + 1) 0 ≡ getD begins q 0 + length (tasksOn t (q + 1))
+  pub few : getD begins (q + 1) 0 ≤ 32
+  pub periods : From T (tasksOn t (q + 1)) (getD begins q 0) spans
+  pub requests : From H (tasksOn t (q + 1)) (getD begins q 0) asks
 
 abbrev pub Grouped : Table → List ℕ → List ℕ → List ℕ → List ℕ → Type 0
-Grouped t starts spans costs asks = (q : ℕ) → q < t .cores → GroupAt t starts spans costs asks q
+Grouped t begins spans costs asks = (q : ℕ) → q < t .cores → GroupAt t begins spans costs asks q
 
 -- the higher tasks of task number k stand from the first of its core to its own place
 pub record Above (t : Table) (k first place : ℕ) (spans costs asks : List ℕ) : Type 0 where
@@ -52,8 +52,8 @@ pub record Above (t : Table) (k first place : ℕ) (spans costs asks : List ℕ)
   pub requests : From H (higher t k) first asks
 
 abbrev pub termsFor : Table → ℕ → ℕ → ℕ → List ℕ → List ℕ → List ℕ → List ℕ → Terms
-termsFor t k first place starts spans costs asks =
-    termsOf (ownWith (C (taskOf t k)) (H (taskOf t k)) (latest (taskOf t k)) (costsOf t (coreOf t k)) (t .cores) first place) starts spans costs asks
+termsFor t k first place begins spans costs asks =
+    termsOf (ownWith (C (taskOf t k)) (H (taskOf t k)) (latest (taskOf t k)) (costsOf t (coreOf t k)) (t .cores) first place) begins spans costs asks
 
 -- a sum over the cores, by number and by place
 below-none : (g : ℕ → ℕ) → sumOver (upTo 0) g ≡ sumBelow (λ q. g (q + 1)) 0
@@ -68,10 +68,10 @@ below-cores g (suc n) =
 abbrev answered : (ℕ → Delay) → rounds.Answer → Answer
 answered by run = record { verdict = withDelay by (run .verdict); rounds = run .rounds }
 
-module _ (t : Table) (k : ℕ) {first place : ℕ} {starts spans costs asks : List ℕ} (g : Grouped t starts spans costs asks)
+module _ (t : Table) (k : ℕ) {first place : ℕ} {begins spans costs asks : List ℕ} (g : Grouped t begins spans costs asks)
     (above : Above t k first place spans costs asks) where
   abbrev m : Terms
-  m = termsFor t k first place starts spans costs asks
+  m = termsFor t k first place begins spans costs asks
 
   -- ---- F
 
@@ -84,7 +84,7 @@ module _ (t : Table) (k : ℕ) {first place : ℕ} {starts spans costs asks : Li
       let less : q + 1 - 1 ≡ q = omega arith in
       rw less at (place-of 0 price 8 (t .cores) (q + 1) (omega arith) (omega arith))
 
-  charge-is : (x q : ℕ) → q < t .cores → chargeOf (m .own) starts spans asks x q ≡ arrivals t (q + 1) x * price (q + 1)
+  charge-is : (x q : ℕ) → q < t .cores → chargeOf (m .own) begins spans asks x q ≡ arrivals t (q + 1) x * price (q + 1)
   unfolding chargeOf arrivals releases
   charge-is x q h = let j = g q h in rw (weight-at q h, asked-is (j .periods) (j .requests) (j .next) 1 x)
 
@@ -135,7 +135,7 @@ module _ (t : Table) (k : ℕ) {first place : ℕ} {starts spans costs asks : Li
     unfolding tasksOn
     sound-on q j mem = sound-all t s (member-those (isOn q) (tasksOf t) mem .0)
 
-    group-of : (q : ℕ) → q < t .cores → Group (m .own) starts spans asks q
+    group-of : (q : ℕ) → q < t .cores → Group (m .own) begins spans asks q
     group-of q h =
         let j = g q h in
         record {

@@ -10,8 +10,8 @@ ghost use Rattle.rules.specs.Tasks.{taskOf};
 ghost use Rattle.rules.specs.Chain.{isAccepted};
 ghost use Rattle.rules.specs.Refusals.{checkTable};
 ghost use Rattle.rules.specs.Operations.{judgeAll};
-ghost use Rattle.groups.specs.Grouped.{Low};
-ghost use Rattle.groups.specs.Lanes.{Lanes, Columns};
+ghost use Rattle.groups.specs.Grouped.{PlacesBelow};
+ghost use Rattle.groups.specs.Columns.{PerTask, Columns};
 ghost use Rattle.rounds.specs.Lent.{lentOf};
 ghost use Rattle.columns.specs.Numbered.{climbedFor, pricedOf};
 ghost use Rattle.columns.specs.Held.{Held};
@@ -21,9 +21,9 @@ use rules::AllJudged;
 use rules::Table;
 
 // Of each task its core and its latest allowed response.
-fn lanes(table: Table, core: &mut [u8; 32], latest: &mut [u64; 32])
+fn per_task(table: Table, core: &mut [u8; 32], latest: &mut [u64; 32])
     requires { ⌜ Sound table × (length (now core) ≡ 32) × (length (now latest) ≡ 32) ⌝ }
-    ensures { λ _. ⌜ Lanes (table .task) (table .tasks) (now (core .exit)) (now (latest .exit)) ⌝ }
+    ensures { λ _. ⌜ PerTask (table .task) (table .tasks) (now (core .exit)) (now (latest .exit)) ⌝ }
 {
     let n = table.tasks as usize;
     let mut i: usize = 0;
@@ -43,7 +43,7 @@ fn columns(
     costs: &mut [u64; 33],
     asks: &mut [u64; 33],
 )
-    requires { ⌜ Sound table × Low (table .tasks) (now order) ⌝ }
+    requires { ⌜ Sound table × PlacesBelow (table .tasks) (now order) ⌝ }
     requires { ⌜ (length (now spans) ≡ 33) × (length (now costs) ≡ 33) × (length (now asks) ≡ 33) ⌝ }
     ensures { λ _. ⌜ Columns (table .task) (table .tasks) (now (order .entry)) (now (spans .exit)) (now (costs .exit)) (now (asks .exit)) ⌝ }
 {
@@ -89,7 +89,7 @@ fn laid(
     requires { ⌜ (length (now spans) ≡ 33) × (length (now costs) ≡ 33) × (length (now asks) ≡ 33) ⌝ }
     ensures { λ r. ⌜ Held t (lentOf r (now (core .exit)) (now (latest .exit)) (now (from .exit)) (now (spans .exit)) (now (costs .exit)) (now (asks .exit))) ⌝ }
 {
-    lanes(t, core, latest);
+    per_task(t, core, latest);
     let board = priced(t);
     let mut order = [0usize; 33];
     *from = groups::grouped(board.tasks, board.cores, core, &mut order);

@@ -6,6 +6,8 @@ use native.Mathlib.Nat.{le-div-iff-mul-le, div-lt-iff-lt-mul, mul-le-mul}
 use native.Mathlib.Omega.{arith}
 use lib.ListN.{getD, set, replicate}
 use Rattle.laws.specs.Idioms.{_/↑_}
+use Rattle.laws.proofs.Fill.{set-keeps}
+use Rattle.laws.proofs.Filled.{only-default}
 use Rattle.counts.specs.Counts.{Small}
 
 -- a/b rounded up is at most m where a is at most m times b
@@ -31,20 +33,8 @@ pub guess-high : (x : ℕ) → x ≤ 3906250000 * 2882303762 → x / 2 ^ 50 ≤ 
 guess-high x h = omega arith
 
 -- no inverse is too large: none at first, then one more
-zeros-small : (n i : ℕ) → getD (replicate n 0) i 0 ≤ 2882303762
-zeros-small zero i = zero-le
-zeros-small (suc n) zero = zero-le
-zeros-small (suc n) (suc i) = zeros-small n i
-
 pub small-none : (n : ℕ) → Small (replicate n 0)
-small-none n = record { each = zeros-small n }
-
-set-small : (l : List ℕ) (i j : ℕ) {x : ℕ} → ((k : ℕ) → getD l k 0 ≤ 2882303762) → x ≤ 2882303762 → getD (set l i x) j 0 ≤ 2882303762
-set-small [] i j so h = so j
-set-small (y ∷ l) zero zero so h = h
-set-small (y ∷ l) zero (suc j) so h = so (suc j)
-set-small (y ∷ l) (suc i) zero so h = so 0
-set-small (y ∷ l) (suc i) (suc j) so h = set-small l i j (λ k. so (suc k)) h
+small-none n = record { each = λ i. rw only-default zero-le }
 
 pub small-next : {l : List ℕ} {x : ℕ} (i : ℕ) → Small l → x ≤ 2882303762 → Small (set l i x)
-small-next {l} i so h = record { each = λ j. set-small l i j (so .each) h }
+small-next {l} i so h = record { each = λ j. set-keeps (λ y. y ≤ 2882303762) l i j (so .each) h }

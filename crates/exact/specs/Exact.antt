@@ -21,7 +21,7 @@ use Rattle.writer.specs.Answers.{Wrote}
 use Rattle.text.specs.Put.{Given}
 use Rattle.listing.specs.Lines.{tableText}
 use Rattle.plain.specs.Codes.{codeOf}
-use Rattle.capi.specs.Columns.{JudgedFile}
+use Rattle.capi.specs.JudgedFile.{JudgedFile}
 use Rattle.capi.specs.Record.{recordPlace}
 
 -- a promise that allows one result; of an operation that is lent buffers, the result with their final bytes

@@ -7,15 +7,15 @@ use lib.ListN.{length, getD, set}
 use Rattle.laws.proofs.Fill.{each-next}
 use Rattle.rules.specs.declared.Task.{Task}
 use Rattle.rules.specs.Tasks.{C, T, H, latest, noTask}
-use Rattle.groups.specs.Lanes.{Lanes, InOrder, Columns}
+use Rattle.groups.specs.Columns.{PerTask, InOrder, Columns}
 
 module _ {tasks : List Task} where
-  pub lanes-none : {core latests : List ℕ} → Lanes tasks 0 core latests
-  lanes-none = record { core-is = λ i h. absurd (omega arith); latest-is = λ i h. absurd (omega arith) }
+  pub per-task-none : {core latests : List ℕ} → PerTask tasks 0 core latests
+  per-task-none = record { core-is = λ i h. absurd (omega arith); latest-is = λ i h. absurd (omega arith) }
 
-  pub lanes-next : {i x y : ℕ} {core latests : List ℕ} → i < length core → i < length latests → Lanes tasks i core latests
-      → x ≡ getD tasks i noTask .core → y ≡ latest (getD tasks i noTask) → Lanes tasks (i + 1) (set core i x) (set latests i y)
-  lanes-next {core = core} {latests = latests} fits room so e late =
+  pub per-task-next : {i x y : ℕ} {core latests : List ℕ} → i < length core → i < length latests → PerTask tasks i core latests
+      → x ≡ getD tasks i noTask .core → y ≡ latest (getD tasks i noTask) → PerTask tasks (i + 1) (set core i x) (set latests i y)
+  per-task-next {core = core} {latests = latests} fits room so e late =
       record {
         core-is = each-next core (λ i. getD tasks i noTask .core) fits (so .core-is) e;
         latest-is = each-next latests (λ i. latest (getD tasks i noTask)) room (so .latest-is) late;

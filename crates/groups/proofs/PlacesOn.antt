@@ -12,29 +12,22 @@ use lib.ListN.{length, length-append, length-set, take, getD, set, replicate, Li
 use lib.Seq.{take-suc-set, take-set-le, getD-set-same, getD-set-other, getD-append-add}
 use borrow.Author.Tests.{eq-eqb}
 use Rattle.laws.specs.Idioms.{from, below}
+use Rattle.laws.proofs.Fill.{set-keeps}
+use Rattle.laws.proofs.Filled.{only-default}
 use Rattle.laws.proofs.Sums.{those-append}
 use Rattle.laws.proofs.Runs.{below-next}
-use Rattle.groups.specs.Grouped.{OneIf, placesOn, Low, Joined}
+use Rattle.groups.specs.Grouped.{OneIf, placesOn, PlacesBelow, Joined}
 
 one-more : (b : Bool) (x : ℕ) → length (cond b (x ∷ []) []) ≡ cond b 1 0
 one-more true x = refl
 one-more false x = refl
 
 -- no place written yet
-pub low-zeros : {n : ℕ} → 1 ≤ n → Low n (replicate 33 0)
-low-zeros {n} some = record { each = zeros 33; long = refl }
-  where
-    zeros : (m k : ℕ) → getD (replicate m 0) k 0 < n
-    zeros zero k = omega arith
-    zeros (suc m) zero = omega arith
-    zeros (suc m) (suc k) = zeros m k
+pub low-zeros : {n : ℕ} → 1 ≤ n → PlacesBelow n (replicate 33 0)
+low-zeros some = record { each = λ k. rw only-default (omega arith); long = refl }
 
-low-set : {n : ℕ} {order : List ℕ} → Low n order → (e : ℕ) {i : ℕ} → e < 33 → i < n → Low n (set order e i)
-low-set {n} {order} low e {i} fits small = record { each = λ k. go k (ℕ-discrete k e); long = rw length-set (low .long) }
-  where
-    go : (k : ℕ) → Dec (k ≡ e) → getD (set order e i) k 0 < n
-    go k (yes same) = rw (same, getD-set-same order e i 0 (omega (arith, low .long))) small
-    go k (no other) = rw (getD-set-other order e k i 0 other) (low .each k)
+low-set : {n : ℕ} {order : List ℕ} → PlacesBelow n order → (e : ℕ) {i : ℕ} → i < n → PlacesBelow n (set order e i)
+low-set {n} {order} low e small = record { each = λ k. set-keeps (λ y. y < n) order e k (low .each) small; long = rw length-set (low .long) }
 
 module _ (core : List ℕ) (q : ℕ) where
   pub places-none : placesOn core q 0 ≡ []
@@ -89,7 +82,7 @@ module _ (core : List ℕ) (q : ℕ) where
 
   -- one task more: its place is written after the others, and counts where it is on the core
   module _ {n m : ℕ} {old : List ℕ} where
-    pub joined-none : Low n old → Joined n (placesOn core q 0) m m old old
+    pub joined-none : PlacesBelow n old → Joined n (placesOn core q 0) m m old old
     joined-none low = record { count = rw places-none (omega arith); is = rw (places-none, append-nil); low = low }
 
     pub joined-next : (i : ℕ) {e k : ℕ} {out : List ℕ} → i < n → e < 33 → Joined n (placesOn core q i) m e old out → OneIf (eqb (getD core i 0) q) k
@@ -98,7 +91,7 @@ module _ (core : List ℕ) (q : ℕ) where
         record {
           count = omega (arith, count-next i, so .count, one .is);
           is = rw (places-next i, ← append-assoc (take m old) (placesOn core q i) _, ← so .is, one .is) (go (eqb (getD core i 0) q));
-          low = low-set (so .low) e fits small;
+          low = low-set (so .low) e small;
         }
       where
         go : (b : Bool) → take (e + cond b 1 0) (set out e i) ≡ take e out ++ cond b (i ∷ []) []

@@ -17,7 +17,7 @@ unfoldable pub placesOn : List ℕ → ℕ → ℕ → List ℕ
 placesOn core q n = those (λ i. eqb (getD core i 0) q) (below n)
 
 -- an array of places of n tasks
-pub record Low (n : ℕ) (order : List ℕ) : Type 0 where
+pub record PlacesBelow (n : ℕ) (order : List ℕ) : Type 0 where
   pub each : (k : ℕ) → getD order k 0 < n
   pub long : length order ≡ 33
 
@@ -25,15 +25,15 @@ pub record Low (n : ℕ) (order : List ℕ) : Type 0 where
 pub record Joined (n : ℕ) (more : List ℕ) (m e : ℕ) (old new : List ℕ) : Type 0 where
   pub count : e ≡ m + length more
   pub is : take e new ≡ take m old ++ more
-  pub low : Low n new
+  pub low : PlacesBelow n new
 
--- the tasks of the core in place q, which has number q + 1, stand at starts[q] to starts[q + 1]
-pub record OrderedAt (n : ℕ) (core starts order : List ℕ) (q : ℕ) : Type 0 where
-  pub next : getD starts (q + 1) 0 ≡ getD starts q 0 + length (placesOn core (q + 1) n)
-  pub few : getD starts (q + 1) 0 ≤ n
-  pub each : (j : ℕ) → j < length (placesOn core (q + 1) n) → getD order (getD starts q 0 + j) 0 ≡ getD (placesOn core (q + 1) n) j 0
+-- the tasks of the core in place q, which has number q + 1, stand at begins[q] to begins[q + 1]
+pub record OrderedAt (n : ℕ) (core begins order : List ℕ) (q : ℕ) : Type 0 where
+  pub next : getD begins (q + 1) 0 ≡ getD begins q 0 + length (placesOn core (q + 1) n)
+  pub few : getD begins (q + 1) 0 ≤ n
+  pub each : (j : ℕ) → j < length (placesOn core (q + 1) n) → getD order (getD begins q 0 + j) 0 ≡ getD (placesOn core (q + 1) n) j 0
 
-pub record Ordered (cores n : ℕ) (core starts order : List ℕ) : Type 0 where
-  pub long : length starts ≡ 9
-  pub low : Low n order
-  pub each : (q : ℕ) → q < cores → OrderedAt n core starts order q
+pub record Ordered (cores n : ℕ) (core begins order : List ℕ) : Type 0 where
+  pub long : length begins ≡ 9
+  pub low : PlacesBelow n order
+  pub each : (q : ℕ) → q < cores → OrderedAt n core begins order q

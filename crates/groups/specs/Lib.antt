@@ -1,5 +1,5 @@
 -- What the contracts about lent figures cite beside the rules.
 --     Grouped  the tasks by their cores
---     Lanes    their figures in lent arrays
+--     Columns  their figures in lent arrays
 pub mod Grouped
-pub mod Lanes
+pub mod Columns

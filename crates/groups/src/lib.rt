@@ -3,7 +3,7 @@ ghost use mathlib.Core.Path.{_≡_};
 ghost use lib.Dec.{eqb};
 ghost use lib.ListN.{length, getD};
 ghost use Prim.Native.Nat.{_+_, _≤_, _<_};
-ghost use Rattle.groups.specs.Grouped.{OneIf, Low, Joined, Ordered, placesOn};
+ghost use Rattle.groups.specs.Grouped.{OneIf, PlacesBelow, Joined, Ordered, placesOn};
 
 fn same(a: u8, b: u8) -> usize
     ensures { λ r. ⌜ OneIf (eqb a b) r ⌝ }
@@ -14,7 +14,7 @@ fn same(a: u8, b: u8) -> usize
 // The places of the tasks on core q, after the m that are taken. Each is written at the next place, which counts only where the core is q.
 fn group(n: usize, q: u8, m: usize, core: &[u8; 32], order: &mut [usize; 33]) -> usize
     requires { ⌜ (n ≤ 32) × (m + length (placesOn (now core) q n) ≤ 32) ⌝ }
-    requires { ⌜ Low n (now order) ⌝ }
+    requires { ⌜ PlacesBelow n (now order) ⌝ }
     ensures { λ r. ⌜ Joined n (placesOn (now (core .entry)) q n) m r (now (order .entry)) (now (order .exit)) ⌝ }
 {
     let mut at = m;
@@ -30,7 +30,7 @@ fn group(n: usize, q: u8, m: usize, core: &[u8; 32], order: &mut [usize; 33]) ->
 // The places of the tasks of every core, core after core; and where each core's begin.
 pub fn grouped(n: usize, cores: usize, core: &[u8; 32], order: &mut [usize; 33]) -> [usize; 9]
     requires { ⌜ (n ≤ 32) × (cores ≤ 8) ⌝ }
-    requires { ⌜ Low n (now order) ⌝ }
+    requires { ⌜ PlacesBelow n (now order) ⌝ }
     ensures { λ r. ⌜ Ordered cores n (now (core .entry)) r (now (order .exit)) ⌝ }
 {
     let mut from = [0usize; 9];

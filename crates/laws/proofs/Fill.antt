@@ -1,7 +1,7 @@
 -- An array that is filled from its first place on. Assumes nothing.
 use mathlib.Core.Path.{_≡_, sym}
 use mathlib.Core.List.{List, [], _∷_, _++_, append-assoc}
-use Prim.Native.Nat.{ℕ, suc, _+_, _-_, _<_}
+use Prim.Native.Nat.{ℕ, zero, suc, _+_, _-_, _<_}
 use native.Mathlib.Decide.{ℕ-discrete}
 use native.Mathlib.Omega.{arith}
 use native.Mathlib.Numerals.{add-one}
@@ -26,3 +26,11 @@ each-next xs g {i} {y} fits so e j h = go (ℕ-discrete j i)
     go : Dec (j ≡ i) → getD (set xs i y) j 0 ≡ g j
     go (yes same) = rw (same, getD-set-same xs i y 0 fits) e
     go (no other) = rw (getD-set-other xs i j y 0 other) (so j (omega (arith, other)))
+
+-- what every place has, it has after a store of what has it too
+pub set-keeps : (P : ℕ → Type 0) (xs : List ℕ) (i j : ℕ) {x : ℕ} → ((k : ℕ) → P (getD xs k 0)) → P x → P (getD (set xs i x) j 0)
+set-keeps P [] i j so h = so j
+set-keeps P (y ∷ xs) zero zero so h = h
+set-keeps P (y ∷ xs) zero (suc j) so h = so (suc j)
+set-keeps P (y ∷ xs) (suc i) zero so h = so 0
+set-keeps P (y ∷ xs) (suc i) (suc j) so h = set-keeps P xs i j (λ k. so (suc k)) h

@@ -14,11 +14,15 @@ use Rattle.laws.proofs.Runs.{length-map-from}
 pub filled-next : {A : Type 0} (n : ℕ) (d : A) (l : List A) (i : ℕ) → i < n → i < length l → set (filled n d (take i l)) i (getD l i d) ≡ filled n d (take (i + 1) l)
 filled-next n d l i h g = rw (fill-step n d (take i l) i (getD l i d) (length-take-le i l (omega arith)) h, add-one i, take-suc l i d g)
 
+-- in places that all have the default, and beyond them, stands the default
+pub only-default : {A : Type 0} (n i : ℕ) (d : A) → getD (replicate n d) i d ≡ d
+only-default zero i d = refl
+only-default (suc n) zero d = refl
+only-default (suc n) (suc i) d = only-default n i d
+
 -- beyond the end stands the default, whether it is there or not
 pad-default : {A : Type 0} (l : List A) (n i : ℕ) (d : A) → getD (l ++ replicate n d) i d ≡ getD l i d
-pad-default [] zero i d = refl
-pad-default [] (suc n) zero d = refl
-pad-default [] (suc n) (suc i) d = pad-default [] n i d
+pad-default [] n i d = only-default n i d
 pad-default (x ∷ xs) n zero d = refl
 pad-default (x ∷ xs) n (suc i) d = pad-default xs n i d
 

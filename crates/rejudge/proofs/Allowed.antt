@@ -20,7 +20,7 @@ use Rattle.rules.proofs.LentStarts.{answers-same}
 use Rattle.rules.proofs.Points.{carried-judgeable}
 use Rattle.rules.proofs.Worsened.{worsened}
 use Rattle.laws.proofs.Runs.{length-map-from}
-use Rattle.laws.proofs.Filled.{filled-length}
+use Rattle.laws.proofs.Filled.{only-default, filled-length}
 use Rattle.laws.proofs.Places.{place-of}
 use Rattle.rejudge.specs.Carried.{startOf, olderStarts, AllAllowed}
 
@@ -45,13 +45,8 @@ module _ (t : Table) (passed : isAccepted (checkTable t) ≡ true) (starts : Lis
 
 -- ---- fresh starts
 
-zeros : (n i : ℕ) → _≡_ {A = ℕ} (getD (replicate n 0) i 0) 0
-zeros zero i = refl
-zeros (suc n) zero = refl
-zeros (suc n) (suc i) = zeros n i
-
 pub fresh-starts : (k : ℕ) → entry 0 (replicate 32 0) k ≡ fresh k
-fresh-starts k = zeros 32 (k - 1)
+fresh-starts k = only-default 32 (k - 1) 0
 
 module _ (t : Table) (passed : isAccepted (checkTable t) ≡ true) where
   pub all-fresh : AllAllowed t (replicate 32 0)

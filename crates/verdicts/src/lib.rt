@@ -6,8 +6,8 @@ ghost use Rattle.rules.specs.declared.Table.{Table};
 ghost use Rattle.rules.specs.Chain.{isAccepted};
 ghost use Rattle.rules.specs.File.{decode};
 ghost use Rattle.rules.specs.Operations.{checkFile, judgeAll};
-ghost use Rattle.groups.specs.Grouped.{Low};
-ghost use Rattle.groups.specs.Lanes.{Lanes, Columns};
+ghost use Rattle.groups.specs.Grouped.{PlacesBelow};
+ghost use Rattle.groups.specs.Columns.{PerTask, Columns};
 ghost use Rattle.rounds.specs.Lent.{lentOf};
 ghost use Rattle.columns.specs.Numbered.{pricedOf};
 ghost use Rattle.columns.specs.Held.{Held};
@@ -15,12 +15,12 @@ use rounds::Priced;
 use rules::AllJudged;
 
 // Of each task of an accepted file its core and its latest allowed response.
-fn lanes(file: &[u8], core: &mut [u8; 32], latest: &mut [u64; 32])
+fn per_task(file: &[u8], core: &mut [u8; 32], latest: &mut [u64; 32])
     ghost { Table }
     requires { λ t. ⌜ decode (now file) ≡ t ⌝ }
     requires { λ t. ⌜ isAccepted (checkFile (now file)) ≡ true ⌝ }
     requires { λ t. ⌜ (length (now core) ≡ 32) × (length (now latest) ≡ 32) ⌝ }
-    ensures { λ t _. ⌜ Lanes (t .task) (t .tasks) (now (core .exit)) (now (latest .exit)) ⌝ }
+    ensures { λ t _. ⌜ PerTask (t .task) (t .tasks) (now (core .exit)) (now (latest .exit)) ⌝ }
 {
     let n = whole::size(file[2]);
     let mut i: usize = 0;
@@ -43,7 +43,7 @@ fn columns(
     ghost { Table }
     requires { λ t. ⌜ decode (now file) ≡ t ⌝ }
     requires { λ t. ⌜ isAccepted (checkFile (now file)) ≡ true ⌝ }
-    requires { λ t. ⌜ Low (t .tasks) (now order) ⌝ }
+    requires { λ t. ⌜ PlacesBelow (t .tasks) (now order) ⌝ }
     requires { λ t. ⌜ (length (now spans) ≡ 33) × (length (now costs) ≡ 33) × (length (now asks) ≡ 33) ⌝ }
     ensures { λ t _. ⌜ Columns (t .task) (t .tasks) (now (order .entry)) (now (spans .exit)) (now (costs .exit)) (now (asks .exit)) ⌝ }
 {
@@ -91,7 +91,7 @@ fn laid(
     requires { λ t. ⌜ (length (now spans) ≡ 33) × (length (now costs) ≡ 33) × (length (now asks) ≡ 33) ⌝ }
     ensures { λ t r. ⌜ Held t (lentOf r (now (core .exit)) (now (latest .exit)) (now (from .exit)) (now (spans .exit)) (now (costs .exit)) (now (asks .exit))) ⌝ }
 {
-    lanes(file, core, latest);
+    per_task(file, core, latest);
     let board = priced(file);
     let mut order = [0usize; 33];
     *from = groups::grouped(board.tasks, board.cores, core, &mut order);

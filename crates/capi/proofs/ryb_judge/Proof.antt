@@ -7,15 +7,15 @@ use Rattle.rules.specs.Chain.{isAccepted}
 use Rattle.rules.specs.File.{decode}
 use Rattle.rules.specs.Operations.{checkFile, judgeAll}
 use Rattle.rules.proofs.Chain.{passes}
-use Rattle.file.proofs.Reading.{file-sized}
-use Rattle.capi.proofs.Judging.{lent, file-refused, start-refused, few-tasks, all-judged}
+use Rattle.file.proofs.Reading.{file-sized, file-counts}
+use Rattle.capi.proofs.Judging.{lentStarts, file-refused, start-refused, all-judged}
 use Rattle.capi.proofs.ryb_judge.Statement.{statement}
 use Rattle.capi.proofs.ryb_judge.Tie as tie
 
 accepts : (c : tie.Else1) → isAccepted (checkFile (c .before .before .before .before .before .before .before .before .args .file .now)) ≡ true
 accepts c = passes (c .before .before .check .ensures) (c .if1 .left)
 
-gave : (c : tie.After-judge-accepted) → let a = c .before .before .before .before .before .before .before .before .before .before .args in c .judge-accepted .result ≡ judgeAll (decode (a .file .now)) (lent (a .file .now) (a .starts .now))
+gave : (c : tie.After-judge-accepted) → let a = c .before .before .before .before .before .before .before .before .before .before .args in c .judge-accepted .result ≡ judgeAll (decode (a .file .now)) (lentStarts (a .file .now) (a .starts .now))
 gave c = c .judge-accepted .ensures ∙ ap (judgeAll (decode (c .before .before .before .before .before .before .before .before .before .before .args .file .now))) (c .before .all-starts .ensures)
 
 returns : tie.Need-returns
@@ -27,7 +27,7 @@ returns-2 c =
     rw (c .code2 .ensures) (start-refused (a .file .now) (a .starts .now) (accepts (c .before .before .before .before .before)) (gave (c .before .before .before)) (c .before .if2 .taken))
 
 few : tie.Need-store-answers-requires
-few c κs = let a = c .before .before .before .before .before .before .before .before .before .before .before .before .before .before .before .before .before .before .args in rw (c .before .before .before .size .ensures .0) (few-tasks (a .file .now) (a .starts .now) (accepts (c .before .before .before .before .before .before .before .before .before .before)))
+few c κs = rw (c .before .before .before .size .ensures .0) (file-counts _ (accepts (c .before .before .before .before .before .before .before .before .before .before)) .1)
 
 returns-3 : tie.Need-returns-3
 returns-3 c =

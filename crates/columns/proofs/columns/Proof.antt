@@ -4,7 +4,7 @@ use mathlib.Core.Path.{_≡_, refl}
 use Prim.Native.Nat.{_≤_, _<_, _-_}
 use native.Mathlib.Omega.{arith}
 use lib.ListN.{length, length-set, getD}
-use Rattle.groups.specs.Lanes.{Columns}
+use Rattle.groups.specs.Columns.{Columns}
 use Rattle.groups.proofs.Filling.{columns-none, columns-next}
 use Rattle.columns.proofs.columns.Statement.{statement}
 use Rattle.columns.proofs.columns.Tie as tie

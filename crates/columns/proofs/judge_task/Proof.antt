@@ -9,7 +9,7 @@ use Rattle.groups.proofs.PlacesOn.{low-zeros}
 use Rattle.climb.specs.Terms.{Terms}
 use Rattle.climb.specs.Run.{climbed}
 use Rattle.rounds.specs.Lent.{Lent, lentOf, placeAt, Judgeable}
-use Rattle.rounds.proofs.Each.{here-terms, here-ready, cost-at}
+use Rattle.rounds.proofs.Here.{here-terms, here-ready, cost-at}
 use Rattle.columns.specs.Numbered.{climbedFor}
 use Rattle.columns.proofs.Holding.{of-judgeable, of-climbed, tasks-are}
 use Rattle.columns.proofs.judge_task.Statement.{statement}
@@ -49,7 +49,7 @@ module _ (c : tie.After-laid) where
   first-low = omega (arith, judgeable .place-low i counted)
 
   in-time : start .args .start ≤ getD (lent .latest) i 0
-  in-time = rw ((c .laid .ensures) .lanes .latest-is i here) (start .pre .1 .1)
+  in-time = rw ((c .laid .ensures) .per-task .latest-is i here) (start .pre .1 .1)
 
 place-requires : tie.Need-place-requires
 place-requires c κs = let filled = c .before .before .before in (few filled, first-low filled)

@@ -6,7 +6,7 @@ use native.Mathlib.Omega.{arith}
 use lib.ListN.{length, length-set, getD}
 use Rattle.rules.specs.File.{tasksIn, decode}
 use Rattle.file.proofs.Reading.{file-sized, file-counts}
-use Rattle.groups.specs.Lanes.{Columns}
+use Rattle.groups.specs.Columns.{Columns}
 use Rattle.groups.proofs.Filling.{columns-none, columns-next}
 use Rattle.verdicts.proofs.Accepted.{tasks-are, task-in-place}
 use Rattle.verdicts.proofs.columns.Statement.{statement}

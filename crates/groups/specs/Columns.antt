@@ -7,7 +7,7 @@ use Rattle.rules.specs.declared.Task.{Task}
 use Rattle.rules.specs.Tasks.{C, T, H, latest, noTask}
 
 -- of the first n tasks the core and the latest allowed response
-pub record Lanes (tasks : List Task) (n : ℕ) (core latests : List ℕ) : Type 0 where
+pub record PerTask (tasks : List Task) (n : ℕ) (core latests : List ℕ) : Type 0 where
   pub core-is : (i : ℕ) → i < n → getD core i 0 ≡ getD tasks i noTask .core
   pub latest-is : (i : ℕ) → i < n → getD latests i 0 ≡ latest (getD tasks i noTask)
 

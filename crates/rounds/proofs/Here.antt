@@ -1,0 +1,32 @@
+-- The task in place i of lent columns, with where it stands and what its core costs: its terms. Assumes nothing.
+use mathlib.Core.Path.{_≡_}
+use mathlib.Core.List.{List}
+use Prim.Native.Nat.{ℕ, _+_, _-_, _≤_, _<_}
+use native.Mathlib.Omega.{arith}
+use lib.ListN.{getD}
+use Rattle.laws.specs.Idioms.{entry}
+use Rattle.laws.proofs.Places.{getD-within}
+use Rattle.board.specs.declared.CoreCosts.{CoreCosts}
+use Rattle.board.specs.Costs.{noCosts}
+use Rattle.climb.specs.Terms.{Terms, termsOf}
+use Rattle.climb.specs.Run.{Ready, climbed}
+use Rattle.rounds.specs.Lent.{Lent, ownWith, placeAt, termsAt, climbedAt, Judgeable}
+
+module _ (l : Lent) (i : ℕ) {place : ℕ} (at : place ≡ placeAt l i) {cost : CoreCosts} (is : cost ≡ entry noCosts (l .board .costs) (getD (l .core) i 0)) where
+  abbrev terms : Terms
+  terms =
+      termsOf (ownWith (getD (l .execs) place 0) (getD (l .asks) place 0) (getD (l .latest) i 0) cost (l .board .cores) (getD (l .begins) (getD (l .core) i 0 - 1) 0) place)
+      (l .begins) (l .periods) (l .execs) (l .asks)
+
+  pub here-terms : terms ≡ termsAt l i
+  here-terms = rw (at, is)
+
+  pub here-ready : Judgeable l → (start : ℕ) → i < l .board .tasks → start ≤ getD (l .latest) i 0 → Ready terms start
+  here-ready j start here fits = rw here-terms (j .ready i start here fits)
+
+  pub here-gives : (starts : List ℕ) → climbed terms (getD starts i 0) ≡ climbedAt l starts (i + 1)
+  unfolding climbedAt
+  here-gives starts = let less : i + 1 - 1 ≡ i = omega arith in rw (less, here-terms)
+
+pub cost-at : (l : Lent) → Judgeable l → (i : ℕ) → i < l .board .tasks → (d : CoreCosts) → getD (l .board .costs) (getD (l .core) i 0 - 1) d ≡ entry noCosts (l .board .costs) (getD (l .core) i 0)
+cost-at l j i here d = let core = j .core-in i here in getD-within (l .board .costs) (getD (l .core) i 0 - 1) d noCosts (omega (arith, core .low, core .high, j .costs-long))
