@@ -8,9 +8,9 @@ use lib.Dec.{eqb}
 use lib.ListN.{length}
 use Rattle.rules.specs.declared.Table.{Table}
 use Rattle.rules.specs.Cores.{share, setOf, isNear, isFar, near}
-use Rattle.rules.specs.Sound.{Sound}
+use Rattle.facts.specs.Sound.{Sound}
 use Rattle.rules.specs.Dram.{crossing, conflict}
-use Rattle.rules.specs.Board.{weight, pricesOf}
+use Rattle.facts.specs.Prices.{weight, pricesOf}
 use Rattle.delays.specs.Figures.{figuresOf}
 use Rattle.delays.proofs.Bounds.{bounded}
 use Rattle.board.proofs.Masks.{bit-high, counted}

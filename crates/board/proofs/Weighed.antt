@@ -14,10 +14,10 @@ use lib.ListN.{length, replicate, set}
 use Rattle.rules.specs.declared.Table.{Table}
 use Rattle.rules.specs.Timing.{Row}
 use Rattle.rules.specs.Cores.{setOf, isNear, isFar, near, far}
-use Rattle.rules.specs.Sound.{SoundRow}
+use Rattle.facts.specs.Sound.{SoundRow}
 use Rattle.rules.specs.Dram.{crossing, conflict, inter, intra, RD}
-use Rattle.rules.specs.Board.{weight, pricesOf}
-use Rattle.rules.proofs.Weights.{share-comm, by-weights}
+use Rattle.facts.specs.Prices.{weight, pricesOf}
+use Rattle.facts.proofs.Weights.{share-comm, by-weights}
 use Rattle.delays.specs.declared.Figures.{Figures}
 use Rattle.delays.specs.Figures.{figuresOf, FiguresBounded}
 use Rattle.delays.proofs.Bounds.{bounded}

@@ -8,7 +8,7 @@ use lib.ListN.{replicate}
 use Rattle.rules.specs.declared.Table.{Table}
 use Rattle.laws.specs.Idioms.{upTo, filled}
 use Rattle.rules.specs.Cores.{isNear}
-use Rattle.rules.specs.Board.{pricesOf}
+use Rattle.facts.specs.Prices.{pricesOf}
 use Rattle.delays.specs.declared.Figures.{Figures}
 use Rattle.delays.specs.Figures.{figuresOf}
 use Rattle.board.specs.declared.CoreCosts.{CoreCosts}

@@ -3,26 +3,26 @@ ghost use mathlib.Core.Path.{_≡_};
 ghost use Prim.Native.Nat.{_+_, _≤_};
 ghost use lib.ListN.{length};
 ghost use lib.Seq.{sets};
-ghost use Rattle.laws.specs.Idioms.{number, bytes, part};
+ghost use Rattle.laws.specs.Idioms.{numberIn, bytesOf, part};
 
 // The numbers that two, four and eight bytes give.
 pub fn le16(s: &[u8], at: usize) -> u16
     requires { ⌜ at + 2 ≤ length (now s) ⌝ }
-    ensures { λ r. ⌜ r ≡ number (part (now (s .entry)) at 2) ⌝ }
+    ensures { λ r. ⌜ r ≡ numberIn (part (now (s .entry)) at 2) ⌝ }
 {
     (s[at] as u16) + 256 * (s[at + 1] as u16)
 }
 
 pub fn le32(s: &[u8], at: usize) -> u32
     requires { ⌜ at + 4 ≤ length (now s) ⌝ }
-    ensures { λ r. ⌜ r ≡ number (part (now (s .entry)) at 4) ⌝ }
+    ensures { λ r. ⌜ r ≡ numberIn (part (now (s .entry)) at 4) ⌝ }
 {
     (le16(s, at) as u32) + 65536 * (le16(s, at + 2) as u32)
 }
 
 pub fn le64(s: &[u8], at: usize) -> u64
     requires { ⌜ at + 8 ≤ length (now s) ⌝ }
-    ensures { λ r. ⌜ r ≡ number (part (now (s .entry)) at 8) ⌝ }
+    ensures { λ r. ⌜ r ≡ numberIn (part (now (s .entry)) at 8) ⌝ }
 {
     (le32(s, at) as u64) + 4294967296 * (le32(s, at + 4) as u64)
 }
@@ -30,7 +30,7 @@ pub fn le64(s: &[u8], at: usize) -> u64
 // The n lowest bytes of v, from a place on.
 pub fn put(out: &mut [u8], at: usize, v: u64, n: usize)
     requires { ⌜ at + n ≤ length (now out) ⌝ }
-    ensures { λ _. ⌜ now (out .exit) ≡ sets (now (out .entry)) at (bytes n v) ⌝ }
+    ensures { λ _. ⌜ now (out .exit) ≡ sets (now (out .entry)) at (bytesOf n v) ⌝ }
 {
     let mut w = v;
     let mut i: usize = 0;

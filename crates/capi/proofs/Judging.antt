@@ -12,12 +12,12 @@ use Rattle.rules.specs.declared.Refusal.{Refusal}
 use Rattle.rules.specs.declared.AllJudged.{AllJudged}
 use Rattle.rules.specs.Operations.{checkFile, answersFrom, judgeAll}
 use Rattle.file.proofs.Reading.{file-counts}
-use Rattle.rules.proofs.Chain.{passes, refuses, first-refuses, second-decides}
+use Rattle.facts.proofs.Chain.{passes, refuses, first-refuses, second-decides}
 use Rattle.plain.specs.Codes.{codeOf}
 use Rattle.capi.specs.JudgedFile.{checkJudging, answersOf, columnAfter, JudgedFile}
 use Rattle.plain.specs.Stored.{Stored}
 use Rattle.laws.proofs.Filled.{take-filled}
-use Rattle.rules.proofs.LentStarts.{lent-starts}
+use Rattle.facts.proofs.LentStarts.{lent-starts}
 
 -- ---- by what a refusal is decided, and which answers there are
 

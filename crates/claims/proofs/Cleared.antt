@@ -12,8 +12,8 @@ use Rattle.rules.specs.Tasks.{noTask, taskOf}
 use Rattle.rules.specs.Cores.{setOf}
 use Rattle.rules.specs.Chain.{_orElse_, given}
 use Rattle.rules.specs.Refusals.{countsFault, checkTiming, setFault, coreFault, timeFault, requestFault, boardRefusal, tasksRefusal, checkBoard, checkTasks, checkTable}
-use Rattle.rules.proofs.Accepted.{sound}
-use Rattle.rules.proofs.First.{first-same}
+use Rattle.facts.proofs.Accepted.{sound}
+use Rattle.facts.proofs.First.{first-same}
 use Rattle.claims.specs.Files.{AcceptedTable, Shape, cleared}
 
 -- a used place is kept, whatever the others are filled with

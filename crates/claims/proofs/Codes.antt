@@ -9,23 +9,23 @@ use Rattle.rules.specs.declared.Task.{Task}
 use Rattle.rules.specs.Units.{ps}
 use Rattle.rules.specs.Tasks.{C, T, D, H}
 use Rattle.rules.specs.File.{recordSize, recordBytes, recordTask}
-use Rattle.laws.specs.Idioms.{number, bytes, part}
+use Rattle.laws.specs.Idioms.{numberIn, bytesOf, part}
 use Rattle.laws.specs.Bytes.{Bytes}
 use Rattle.laws.proofs.Bytes.{bytes-length, bytes-are, number-bytes}
 use Rattle.laws.proofs.ByteLists.{bytes-append, known-by-number, part-join, part-known}
 use Rattle.laws.proofs.Rows.{Code}
 
-pub number-code : (k : ℕ) → Code k (bytes k) number
+pub number-code : (k : ℕ) → Code k (bytesOf k) numberIn
 number-code k = record { sized = bytes-length k; again = known-by-number k }
 
 record-length : (form : ℕ) (i : Task) → length (recordBytes form i) ≡ recordSize form
-unfolding recordSize recordBytes bytes
+unfolding recordSize recordBytes bytesOf
 record-length form i = refl
 
 record-again : (form : ℕ) (l : List ℕ) → Bytes l → length l ≡ recordSize form → recordBytes form (recordTask l) ≡ l
 unfolding recordSize recordBytes recordTask
 record-again form l b e =
-    let known : (at k : ℕ) → at + k ≤ 29 → bytes k (number (part l at k)) ≡ part l at k = λ at k h. part-known l at k b (omega arith) in
+    let known : (at k : ℕ) → at + k ≤ 29 → bytesOf k (numberIn (part l at k)) ≡ part l at k = λ at k h. part-known l at k b (omega arith) in
     rw (known 0 1 (omega arith), known 1 8 (omega arith), known 9 8 (omega arith), known 17 8 (omega arith), known 25 4 (omega arith))
     (rw (part-join l 0 1 8, part-join l 0 9 8, part-join l 0 17 8, part-join l 0 25 4) (take-all 29 l (omega arith)))
 
@@ -46,7 +46,7 @@ pub record Fits (i : Task) : Type 0 where
   pub H-fits : H i < 256 ^ 4
 
 pub task-known : (form : ℕ) (i : Task) → Fits i → recordTask (recordBytes form i) ≡ i
-unfolding recordBytes recordTask bytes
+unfolding recordBytes recordTask bytesOf
 task-known form i f = λ j. record {
   core = number-bytes 1 (i .core) (f .core-fits) j;
   exec = ps (number-bytes 8 (C i) (f .C-fits) j);

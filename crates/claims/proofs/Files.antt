@@ -12,7 +12,7 @@ use Rattle.rules.specs.File.{encode, decode}
 use Rattle.rules.specs.Operations.{emptyTable, checkFile, reading, checkWrite, writing, outAfter}
 use Rattle.laws.specs.Bytes.{Bytes}
 use Rattle.rules.proofs.EveryRule.{every-rule}
-use Rattle.rules.proofs.Reading.{file-whole, decoded-accepted, read-table, read-accepted}
+use Rattle.facts.proofs.Reading.{file-whole, decoded-accepted, read-table, read-accepted}
 use Rattle.claims.specs.Files.{AcceptedFile, AcceptedTable, Damage, Shape, cleared, Return, ReturnInPlace, OneToOne, NotEmpty}
 use Rattle.whole.proofs.Came.{Whole, whole, came-whole}
 use Rattle.claims.proofs.Damage.{not-cut, not-altered}

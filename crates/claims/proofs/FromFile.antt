@@ -7,8 +7,8 @@ use lib.ListN.{length, take}
 use Rattle.rules.specs.declared.Task.{Task}
 use Rattle.rules.specs.Tasks.{noTask}
 use Rattle.rules.specs.File.{setsAt, recordsAt, recordSize, recordTask, body, encode, coresIn, partitionsIn, tasksIn, formIn, recordIn, decode}
-use Rattle.rules.proofs.Accepted.{sound}
-use Rattle.laws.specs.Idioms.{from, filled, number, part}
+use Rattle.facts.proofs.Accepted.{sound}
+use Rattle.laws.specs.Idioms.{from, filled, numberIn, part}
 use Rattle.laws.specs.Bytes.{Bytes}
 use Rattle.claims.specs.Files.{AcceptedTable, Shape, cleared}
 use Rattle.laws.proofs.Runs.{length-map-from}
@@ -30,7 +30,7 @@ header-bytes (a ∷ b ∷ c ∷ d ∷ l) h = refl
 
 module _ (s : List ℕ) where
   setIn : ℕ → ℕ
-  setIn k = number (part s (setsAt (formIn s) + 2 * k) 2)
+  setIn k = numberIn (part s (setsAt (formIn s) + 2 * k) 2)
 
   taskIn : ℕ → Task
   taskIn k = recordTask (recordIn s k)

@@ -8,9 +8,9 @@ use lib.Seq.{take-all, drop-at, drop-drop}
 use Rattle.rules.specs.declared.Table.{Table}
 use Rattle.rules.specs.Tasks.{noTask, tasksOf}
 use Rattle.rules.specs.File.{setsAt, recordsAt, recordSize, recordAt, fileLength, recordBytes, recordTask, trailer, body, encode, recordIn, decode}
-use Rattle.rules.proofs.Accepted.{sound}
-use Rattle.rules.proofs.SoundTasks.{tasks-there}
-use Rattle.laws.specs.Idioms.{below, upTo, filled, number, bytes, part}
+use Rattle.facts.proofs.Accepted.{sound}
+use Rattle.facts.proofs.SoundTasks.{tasks-there}
+use Rattle.laws.specs.Idioms.{below, upTo, filled, numberIn, bytesOf, part}
 use Rattle.laws.specs.Bytes.{Bytes, none, more}
 use Rattle.laws.proofs.Bytes.{bytes-length, bytes-are, number-bytes}
 use Rattle.claims.specs.Files.{AcceptedTable, Shape, cleared}
@@ -38,11 +38,11 @@ module _ {t : Table} (shape : Shape t) (passed : AcceptedTable t) where
 
   figures-length : length (figureBytes t) ≡ 30
   unfolding figureBytes
-  figures-length = rw all-figures at (joined-take (bytes 2) 2 (bytes-length 2) (t .timing) 15 (omega (arith, shape .figures)))
+  figures-length = rw all-figures at (joined-take (bytesOf 2) 2 (bytes-length 2) (t .timing) 15 (omega (arith, shape .figures)))
 
   sets-length : length (setBytes t) ≡ 2 * t .cores
   unfolding setBytes
-  sets-length = joined-take (bytes 2) 2 (bytes-length 2) (t .sets) (t .cores) sets-fit
+  sets-length = joined-take (bytesOf 2) 2 (bytes-length 2) (t .sets) (t .cores) sets-fit
 
   tasks-length : length (taskBytes t) ≡ recordSize (t .fourth) * t .tasks
   unfolding taskBytes
@@ -76,7 +76,7 @@ module _ {t : Table} (shape : Shape t) (passed : AcceptedTable t) where
   body-are =
       rw body-parts
       (bytes-append
-      (bytes-append (bytes-append header-are (bytes-joined (bytes 2) (bytes-are 2) (t .timing))) (bytes-joined (bytes 2) (bytes-are 2) (take (t .cores) (t .sets))))
+      (bytes-append (bytes-append header-are (bytes-joined (bytesOf 2) (bytes-are 2) (t .timing))) (bytes-joined (bytesOf 2) (bytes-are 2) (take (t .cores) (t .sets))))
       (bytes-joined (recordBytes (t .fourth)) (record-bytes (t .fourth)) (tasksOf t)))
 
   pub file-small : length (encode t) ≤ 990
@@ -105,7 +105,7 @@ module _ {t : Table} (shape : Shape t) (passed : AcceptedTable t) where
 
   -- ---- what is read from it
 
-  figures-back : map (λ k. number (part (encode t) (4 + 2 * k) 2)) (below 15) ≡ t .timing
+  figures-back : map (λ k. numberIn (part (encode t) (4 + 2 * k) 2)) (below 15) ≡ t .timing
   unfolding figureBytes
   figures-back =
       let rest = setBytes t ++ (taskBytes t ++ trailer (body t)) in
@@ -113,7 +113,7 @@ module _ {t : Table} (shape : Shape t) (passed : AcceptedTable t) where
       (read-back (number-code 2) (encode t) figure-ladder 0 15 (t .timing) rest (omega (arith, shape .figures)) (rw all-figures after-header)
       (λ k less. number-bytes 2 _ (figure-fits t passed k less)))
 
-  sets-back : map (λ k. number (part (encode t) (setsAt (t .fourth) + 2 * k) 2)) (below (t .cores)) ≡ take (t .cores) (t .sets)
+  sets-back : map (λ k. numberIn (part (encode t) (setsAt (t .fourth) + 2 * k) 2)) (below (t .cores)) ≡ take (t .cores) (t .sets)
   unfolding setBytes
   sets-back =
       read-back (number-code 2) (encode t) (set-ladder (t .fourth)) 0 (t .cores) (t .sets) _ sets-fit after-figures

@@ -8,8 +8,8 @@ use Rattle.rules.specs.Cores.{setOf}
 use Rattle.rules.specs.Tasks.{taskOf}
 use Rattle.rules.specs.Chain.{accepted, isAccepted, _orElse_, given, first}
 use Rattle.rules.specs.Refusals.{countsFault, figureFault, relationFault, checkTiming, setFault, coreFault, timeFault, requestFault, boardRefusal, tasksRefusal, checkBoard, checkTasks, checkTable}
-use Rattle.rules.proofs.Chain.{both-accepted, second-decides, no-fault}
-use Rattle.rules.proofs.First.{none-first, first-none}
+use Rattle.facts.proofs.Chain.{both-accepted, second-decides, no-fault}
+use Rattle.facts.proofs.First.{none-first, first-none}
 
 -- accepted by its number is accepted as a whole
 abbrev pub Plain : Refusal → Type 0

@@ -6,7 +6,7 @@ use native.Mathlib.Omega.{arith}
 use lib.ListN.{take}
 use lib.Seq.{take-add}
 use Rattle.rules.specs.declared.Table.{Table}
-use Rattle.laws.specs.Idioms.{joined, bytes, part}
+use Rattle.laws.specs.Idioms.{joined, bytesOf, part}
 use Rattle.rules.specs.Tasks.{tasksOf}
 use Rattle.rules.specs.File.{setsAt, recordsAt, recordSize, recordAt, fileLength, recordBytes, trailer, body, encode}
 use Rattle.laws.proofs.Rows.{Ladder}
@@ -15,10 +15,10 @@ unfoldable pub header : Table → List ℕ
 header t = t .cores ∷ t .partitions ∷ t .tasks ∷ t .fourth ∷ []
 
 unfoldable pub figureBytes : Table → List ℕ
-figureBytes t = joined (map (bytes 2) (t .timing))
+figureBytes t = joined (map (bytesOf 2) (t .timing))
 
 unfoldable pub setBytes : Table → List ℕ
-setBytes t = joined (map (bytes 2) (take (t .cores) (t .sets)))
+setBytes t = joined (map (bytesOf 2) (take (t .cores) (t .sets)))
 
 unfoldable pub taskBytes : Table → List ℕ
 taskBytes t = joined (map (recordBytes (t .fourth)) (tasksOf t))

@@ -7,7 +7,7 @@ use native.Mathlib.Omega.{arith}
 use native.Mathlib.Nat.{le-antisymm}
 use lib.Dec.{leb}
 use borrow.Author.Tests.{leb-true, le-leb}
-use Rattle.equation.specs.Verdict as outcome
+use Rattle.equation.specs.Outcome as outcome
 use Rattle.rules.specs.declared.Table.{Table}
 use Rattle.rules.specs.declared.Delay.{Delay}
 use Rattle.rules.specs.declared.Delay.the-variants.{Request, Job}
@@ -20,8 +20,8 @@ use Rattle.rules.specs.Response.{F, request, job, decided, decider}
 use Rattle.rules.specs.Judgement.{startOf, withDelay, roundsOf, judge, boundOf}
 use Rattle.rules.specs.Chain.{isAccepted}
 use Rattle.rules.specs.Refusals.{checkOne}
-use Rattle.rules.proofs.Starts.{one-judgeable}
-use Rattle.rules.proofs.Points.{fresh-right, start-right}
+use Rattle.facts.proofs.Starts.{one-judgeable}
+use Rattle.facts.proofs.Points.{fresh-right, start-right}
 use Rattle.claims.specs.Point2.{AcceptedTask, Smallest, Decided, Right, PointTwo}
 
 -- ---- a verdict with its delay, by what is right of the verdict
@@ -30,7 +30,7 @@ module _ {f : ℕ → ℕ} {from deadline : ℕ} (by : ℕ → Delay) where
   smallest-one : {R S : ℕ} → Smallest f from deadline R → Smallest f from deadline S → R ≡ S
   smallest-one {R} {S} r s = le-antisymm (r .smallest S (s .solution)) (s .smallest R (r .solution))
 
-  holds-exactly : {v : outcome.Verdict} → outcome.Right f from deadline v
+  holds-exactly : {v : outcome.Outcome} → outcome.Correct f from deadline v
       → (R : ℕ) → ((d : Delay) × (withDelay by v ≡ Holds (ps R) d)) ↔ Smallest f from deadline R
   holds-exactly (outcome.least {R = S} solution least) R = (to, back)
     where
@@ -47,18 +47,18 @@ module _ {f : ℕ → ℕ} {from deadline : ℕ} (by : ℕ → Delay) where
       to : (d : Delay) × (Misses ≡ Holds (ps R) d) → Smallest f from deadline R
       to (d, e) = let z : _≡_ {A = ℕ} 0 1 = cc in absurd (omega arith)
 
-  misses-exactly : {v : outcome.Verdict} → outcome.Right f from deadline v
+  misses-exactly : {v : outcome.Outcome} → outcome.Correct f from deadline v
       → (withDelay by v ≡ Misses) ↔ ((R : ℕ) → ¬ outcome.Solution f from deadline R)
   misses-exactly (outcome.least {R = S} solution least) =
       (λ e. let z : _≡_ {A = ℕ} 0 1 = cc in absurd (omega arith), λ no-solution. absurd (no-solution S solution))
   misses-exactly (outcome.none no-solution) = (λ e. no-solution, λ no. refl)
 
-delay-of : (by : ℕ → Delay) (v : outcome.Verdict) (R : ℕ) (d : Delay) → withDelay by v ≡ Holds (ps R) d → d ≡ by R
-delay-of by (outcome.holds S) R d e =
+delay-of : (by : ℕ → Delay) (v : outcome.Outcome) (R : ℕ) (d : Delay) → withDelay by v ≡ Holds (ps R) d → d ≡ by R
+delay-of by (outcome.found S) R d e =
     let same : S ≡ R = ap boundOf e in
     let at-S : d ≡ by S = cc in
     rw (← same) at-S
-delay-of by outcome.misses R d e = let z : _≡_ {A = ℕ} 0 1 = cc in absurd (omega arith)
+delay-of by outcome.nothing R d e = let z : _≡_ {A = ℕ} 0 1 = cc in absurd (omega arith)
 
 -- ---- the deciding delay
 
@@ -75,7 +75,7 @@ decided-at t k R = record { is-request = picks-request (request (memoryOf t (cor
 
 -- ---- the judgement
 
-pub right : (t : Table) (k given from : ℕ) → outcome.Right (F t k) from (D (taskOf t k)) (roundsOf t k given .verdict) → Right t k given from
+pub right : (t : Table) (k given from : ℕ) → outcome.Correct (F t k) from (D (taskOf t k)) (roundsOf t k given .verdict) → Right t k given from
 unfolding judge
 right t k given from r = record {
   holds = holds-exactly (decider t k) r;

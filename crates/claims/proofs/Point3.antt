@@ -9,11 +9,11 @@ use Rattle.rules.specs.Judgement.{roundsOf, judge}
 use Rattle.rules.specs.Chain.{isAccepted}
 use Rattle.rules.specs.Refusals.{checkOne}
 use Rattle.rules.specs.Operations.{olderBound}
-use Rattle.rules.proofs.Starts.{Judgeable, judged-accepted, one-judgeable, judgeable-one}
-use Rattle.rules.proofs.Points.{start-right, start-limit, carries, carried-judgeable}
-use Rattle.rules.proofs.Instance.{lowest-fits}
-use Rattle.rules.proofs.Worsened.{worsened}
-use Rattle.rules.proofs.Again.{carried-verdict}
+use Rattle.facts.proofs.Starts.{Judgeable, judged-accepted, one-judgeable, judgeable-one}
+use Rattle.facts.proofs.Points.{start-right, start-limit, carries, carried-judgeable}
+use Rattle.facts.proofs.Instance.{lowest-fits}
+use Rattle.facts.proofs.Worsened.{worsened}
+use Rattle.facts.proofs.Again.{carried-verdict}
 use Rattle.rules.specs.declared.Delay.the-variants.{Request}
 use Rattle.rules.specs.declared.Verdict.the-variants.{Holds}
 use Rattle.rules.specs.Units.{ps}

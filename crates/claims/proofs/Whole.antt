@@ -7,7 +7,7 @@ use native.Mathlib.Omega.{arith}
 use lib.ListN.{length, take, drop, take-append-drop, length-append, length-drop}
 use lib.Seq.{take-all, take-at, length-take-le, drop-append-add}
 use Rattle.rules.specs.File.{fileLength, coresIn, tasksIn, formIn, sumOf, runningSum, trailer}
-use Rattle.laws.specs.Idioms.{number, bytes, part}
+use Rattle.laws.specs.Idioms.{numberIn, bytesOf, part}
 use Rattle.laws.specs.Bytes.{Bytes}
 use Rattle.laws.proofs.Bytes.{number-bytes}
 use Rattle.laws.proofs.ByteLists.{part-join, part-known}
@@ -19,7 +19,7 @@ abbrev pub before : List ℕ → List ℕ
 before s = take (length s - 12) s
 
 module _ {s : List ℕ} (b : Bytes s) (w : Whole s) where
-  stored : (at v : ℕ) → at + 4 ≤ length s → number (part s at 4) ≡ v → bytes 4 v ≡ part s at 4
+  stored : (at v : ℕ) → at + 4 ≤ length s → numberIn (part s at 4) ≡ v → bytesOf 4 v ≡ part s at 4
   stored at v fits e = rw e at (part-known s at 4 b fits)
 
   trailer-is : trailer (before s) ≡ drop (length s - 12) s
@@ -40,7 +40,7 @@ module _ {s : List ℕ} (b : Bytes s) (w : Whole s) where
   before-and-trailer = rw trailer-is (sym (take-append-drop (length s - 12) s))
 
 pub trailer-length : (b : List ℕ) → length (trailer b) ≡ 12
-unfolding trailer bytes
+unfolding trailer bytesOf
 trailer-length b = refl
 
 -- bytes that are followed by their trailer
@@ -55,21 +55,21 @@ module _ {b : List ℕ} (are : Bytes b) (long : 34 ≤ length b) (short : length
   same-before : before (trailed b) ≡ b
   same-before = take-at b (trailer b) (length (trailed b) - 12) (omega (arith, size))
 
-  trailer-number : (k v : ℕ) → k ≤ 12 → part (trailer b) k 4 ≡ bytes 4 v → v < 256 ^ 4 → number (part (trailed b) (length (trailed b) - (12 - k)) 4) ≡ v
+  trailer-number : (k v : ℕ) → k ≤ 12 → part (trailer b) k 4 ≡ bytesOf 4 v → v < 256 ^ 4 → numberIn (part (trailed b) (length (trailed b) - (12 - k)) 4) ≡ v
   trailer-number k v h e fits =
       let at : length (trailed b) - (12 - k) ≡ length b + k = omega (arith, size) in
       rw (at, drop-append-add b (trailer b) k, e) (number-bytes 4 v fits)
 
-  count-is : part (trailer b) 0 4 ≡ bytes 4 (length b)
-  unfolding trailer bytes
+  count-is : part (trailer b) 0 4 ≡ bytesOf 4 (length b)
+  unfolding trailer bytesOf
   count-is = refl
 
-  sum-is : part (trailer b) 4 4 ≡ bytes 4 (sumOf b)
-  unfolding trailer bytes
+  sum-is : part (trailer b) 4 4 ≡ bytesOf 4 (sumOf b)
+  unfolding trailer bytesOf
   sum-is = refl
 
-  resum-is : part (trailer b) 8 4 ≡ bytes 4 (runningSum b)
-  unfolding trailer bytes
+  resum-is : part (trailer b) 8 4 ≡ bytesOf 4 (runningSum b)
+  unfolding trailer bytesOf
   resum-is = refl
 
   pub trailed-whole : length (trailed b) ≡ fileLength (formIn (trailed b)) (coresIn (trailed b)) (tasksIn (trailed b)) → Whole (trailed b)

@@ -12,7 +12,7 @@ use Rattle.rules.specs.Timing.{ranges}
 use Rattle.rules.specs.Tasks.{noTask}
 use Rattle.rules.specs.Chain.{isAccepted}
 use Rattle.rules.specs.Refusals.{checkTable}
-use Rattle.rules.proofs.Accepted.{figure, timing-passed, sound}
+use Rattle.facts.proofs.Accepted.{figure, timing-passed, sound}
 use Rattle.claims.proofs.Codes.{Fits}
 
 -- no highest value of the ranges is above the largest of them

@@ -10,11 +10,11 @@ use native.Mathlib.Omega.{arith}
 use lib.ListN.{getD}
 use borrow.Author.Tests.{lt-ltb, le-ltb}
 use Rattle.equation.specs.Equation.{Equation}
-use Rattle.equation.specs.Verdict.{Verdict}
+use Rattle.equation.specs.Outcome.{Outcome}
 use Rattle.equation.specs.Rounds.{Rounds}
 use Rattle.equation.specs.Start.{Allowed}
 use Rattle.laws.proofs.Quotients.{ceil-rises}
-use Rattle.equation.proofs.Judge.{judge-only}
+use Rattle.equation.proofs.Solve.{solve-only}
 use Rattle.equation.proofs.Loop.{Round, starts, Midway, midway-next, midway-holds, midway-misses}
 use Rattle.rules.specs.declared.Verdict.the-variants.{Holds, Misses}
 use Rattle.rules.specs.Units.{ps}
@@ -82,12 +82,12 @@ module _ (m : Terms) (given : ℕ) {start : ℕ} (ok : Ready m given) (raised : 
   allowed : start ≤ timeOf m start → Allowed (timeOf m) (lowestOf (m .own)) (m .own .latest) given
   allowed up = record { given = ok .given-high; rises = λ fits. rw raised at up }
 
-  answer-is : start ≤ timeOf m start → {v : Verdict} {n : ℕ} → Rounds (timeOf m) (m .own .latest) start v n
+  answer-is : start ≤ timeOf m start → {v : Outcome} {n : ℕ} → Rounds (timeOf m) (m .own .latest) start v n
       → _≡_ {A = Climbed} (record { high = false; answer = record { verdict = withDelay (byOf m) v; rounds = n } }) (climbed m given)
   unfolding climbed isHigh answerOf
   answer-is up {v} {n} k =
       let run : Rounds (timeOf m) (m .own .latest) (max (lowestOf (m .own)) given) v n = rw raised at k in
-      let e = judge-only (terms-equation m (ok .lowest-low)) (allowed up) (ok .lowest-high) run in
+      let e = solve-only (terms-equation m (ok .lowest-low)) (allowed up) (ok .lowest-high) run in
       let q : startFrom m given ≤ timeOf m (startFrom m given) = rw raised at up in
       rw (le-ltb _ _ q, e .0, e .1)
 

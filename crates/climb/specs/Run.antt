@@ -20,7 +20,7 @@ startFrom m given = max (lowestOf (m .own)) given
 -- the answer by the rounds from there
 unfoldable pub answerOf : Terms → ℕ → Answer
 answerOf m given =
-    let run = rounds.judge (timeOf m) (lowestOf (m .own)) (m .own .latest) given in
+    let run = rounds.solve (timeOf m) (lowestOf (m .own)) (m .own .latest) given in
     record { verdict = withDelay (byOf m) (run .verdict); rounds = run .rounds }
 
 -- 14 "F(start) < start, for the start that rounds use"

@@ -16,10 +16,10 @@ use Rattle.rules.specs.Judgement.{misses, judge}
 use Rattle.rules.specs.Chain.{isAccepted, first, _orElse_}
 use Rattle.rules.specs.Refusals.{checkTable, checkJudged, lateStart, highStart, checkAll}
 use Rattle.rules.specs.Operations.{answersFrom, noAnswers, judgeAll}
-use Rattle.rules.proofs.Accepted.{sound}
-use Rattle.rules.proofs.Starts.{accepted-judged}
-use Rattle.rules.proofs.First.{first-same, none-first}
-use Rattle.rules.proofs.Chain.{both-accepted}
+use Rattle.facts.proofs.Accepted.{sound}
+use Rattle.facts.proofs.Starts.{accepted-judged}
+use Rattle.facts.proofs.First.{first-same, none-first}
+use Rattle.facts.proofs.Chain.{both-accepted}
 use Rattle.climb.specs.declared.Climbed.{Climbed}
 use Rattle.rounds.specs.Lent.{Lent, climbedAt, firstAfter, firstLowered, answeredOr, judgedLent}
 use Rattle.columns.specs.Numbered.{climbedFor, pricedOf}

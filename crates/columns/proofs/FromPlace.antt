@@ -8,7 +8,7 @@ use lib.ListN.{length, getD}
 use Rattle.rules.specs.declared.Task.{Task}
 use Rattle.laws.specs.Idioms.{_/↑_, sumOver}
 use Rattle.rules.specs.Tasks.{T, noTask}
-use Rattle.rules.specs.Sound.{SoundTask}
+use Rattle.facts.specs.Sound.{SoundTask}
 use Rattle.counts.specs.Counts.{sumBelow, sumFrom, released, askedBy, Slots}
 use Rattle.counts.proofs.Sums.{below-same}
 

@@ -17,8 +17,8 @@ use Rattle.laws.proofs.Places.{getD-within, place-of}
 use Rattle.rules.specs.declared.Task.{Task}
 use Rattle.rules.specs.declared.Table.{Table}
 use Rattle.rules.specs.Tasks.{C, T, H, latest, noTask, tasksOf, taskOf, coreOf, isOn, tasksOn, higher}
-use Rattle.rules.specs.Sound.{Sound, SoundTask}
-use Rattle.rules.proofs.SoundTasks.{tasks-there}
+use Rattle.facts.specs.Sound.{Sound, SoundTask}
+use Rattle.facts.proofs.SoundTasks.{tasks-there}
 use Rattle.board.specs.Costs.{costsOf, noCosts, allCosts}
 use Rattle.groups.specs.Grouped.{placesOn, Ordered}
 use Rattle.groups.specs.Columns.{PerTask, InOrder, Columns}

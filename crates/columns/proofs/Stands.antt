@@ -12,13 +12,14 @@ use Rattle.rules.specs.declared.Table.{Table}
 use Rattle.rules.specs.declared.Delay.{Delay}
 use Rattle.rules.specs.declared.Answer.{Answer}
 use Rattle.rules.specs.Tasks.{C, T, H, releases, latest, tasksOf, taskOf, coreOf, isOn, tasksOn, higher, arrivals}
-use Rattle.rules.specs.Board.{memoryOf, pricesOf, jobAt}
+use Rattle.rules.specs.Board.{memoryOf}
+use Rattle.facts.specs.Prices.{pricesOf, jobAt}
 use Rattle.rules.specs.Response.{preemption, request, job, delay, response, decided, F, decider}
 use Rattle.rules.specs.Judgement.{withDelay, lowest, roundsOf, judge}
 use Rattle.rules.specs.Refusals.{highStart}
-use Rattle.rules.specs.Sound.{Sound, SoundTask}
-use Rattle.rules.proofs.SoundTasks.{sound-all, sound-higher}
-use Rattle.rules.proofs.Dram.{memory-priced}
+use Rattle.facts.specs.Sound.{Sound, SoundTask}
+use Rattle.facts.proofs.SoundTasks.{sound-all, sound-higher}
+use Rattle.facts.proofs.Dram.{memory-priced}
 use Rattle.board.specs.Costs.{costsOf}
 use Rattle.laws.specs.Idioms.{sumOver, from, upTo}
 use Rattle.laws.proofs.Sums.{sum-append, upTo-next}
@@ -65,7 +66,7 @@ below-cores g zero = below-none g
 below-cores g (suc n) =
     rw (← add-one n, upTo-next n, sum-append, below-next (λ q. g (q + 1)) n) (omega (arith, below-cores g n))
 
-abbrev answered : (ℕ → Delay) → rounds.Answer → Answer
+abbrev answered : (ℕ → Delay) → rounds.Solved → Answer
 answered by run = record { verdict = withDelay by (run .verdict); rounds = run .rounds }
 
 module _ (t : Table) (k : ℕ) {first place : ℕ} {begins spans costs asks : List ℕ} (g : Grouped t begins spans costs asks)
@@ -121,7 +122,7 @@ module _ (t : Table) (k : ℕ) {first place : ℕ} {begins spans costs asks : Li
   answer-same : (start : ℕ) → answerOf m start ≡ judge t k start
   unfolding answerOf judge roundsOf
   answer-same start =
-      ap (λ (by : ℕ → Delay). answered by (rounds.judge (timeOf m) (lowestOf (m .own)) (latest (taskOf t k)) start)) by-same
+      ap (λ (by : ℕ → Delay). answered by (rounds.solve (timeOf m) (lowestOf (m .own)) (latest (taskOf t k)) start)) by-same
       ∙ rw (time-same, lowest-is)
 
   pub climbed-same : (start : ℕ) → climbed m start ≡ climbedFor t k start

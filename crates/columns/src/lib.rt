@@ -4,7 +4,7 @@ ghost use mathlib.Core.Bool.{true};
 ghost use Prim.Native.Nat.{_≤_};
 ghost use lib.ListN.{length};
 ghost use Rattle.laws.specs.Idioms.{Within};
-ghost use Rattle.rules.specs.Sound.{Sound};
+ghost use Rattle.facts.specs.Sound.{Sound};
 ghost use Rattle.rules.specs.Tasks as Tasks;
 ghost use Rattle.rules.specs.Tasks.{taskOf};
 ghost use Rattle.rules.specs.Chain.{isAccepted};

@@ -8,7 +8,7 @@ use Rattle.rules.specs.declared.Cycles.{Cycles}
 use Rattle.rules.specs.Timing.{Row, tCK, CL, WL, BL, tWTR, Ncols, Ncap, unknown}
 use Rattle.rules.specs.Units.{_⊕_, inTime}
 use Rattle.rules.specs.Delays.{pre, act, readwrite, hit, reopen, conf, run, window}
-use Rattle.rules.specs.Sound.{SoundRow}
+use Rattle.facts.specs.Sound.{SoundRow}
 use Rattle.laws.specs.Idioms.{_/↑_}
 use Rattle.laws.proofs.Signed.{larger-cut}
 use Rattle.delays.specs.Figures.{figuresOf, FiguresBounded}

@@ -4,7 +4,7 @@ ghost use Prim.Native.Nat.{_+_, _*_, _<_, _^_};
 ghost use Rattle.rules.specs.Timing.{tCK, ddr3-1333};
 ghost use Rattle.rules.specs.Units.{inTime, _⊕_};
 ghost use Rattle.rules.specs.Delays.{pre, act, readwrite};
-ghost use Rattle.rules.specs.Sound.{SoundRow};
+ghost use Rattle.facts.specs.Sound.{SoundRow};
 ghost use Rattle.delays.specs.Figures.{figuresOf};
 use cycles::act;
 use cycles::conf;

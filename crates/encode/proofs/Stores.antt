@@ -9,7 +9,7 @@ use Rattle.rules.specs.declared.Task.{Task}
 use Rattle.rules.specs.declared.Table.{Table}
 use Rattle.rules.specs.Tasks.{C, T, D, H, tasksOf}
 use Rattle.rules.specs.File.{setsAt, recordsAt, recordSize, fileLength, recordBytes, sumOf, runningSum, trailer, body}
-use Rattle.laws.specs.Idioms.{joined, bytes}
+use Rattle.laws.specs.Idioms.{joined, bytesOf}
 use Rattle.laws.proofs.Bytes.{bytes-length}
 use Rattle.laws.proofs.Runs.{sets-after, joined-length, joined-take}
 use Rattle.whole.proofs.Places.{records-are}
@@ -21,46 +21,46 @@ module _ (form : ℕ) (i : Task) where
   record-length = simp (length-append, bytes-length)
 
   pub record-stores : (out : List ℕ) (at : ℕ)
-      → sets (sets (sets (sets (sets out at (bytes 1 (i .core))) (at + 1) (bytes 8 (C i))) (at + 9) (bytes 8 (T i))) (at + 17) (bytes 8 (D i))) (at + 25) (bytes 4 (H i))
+      → sets (sets (sets (sets (sets out at (bytesOf 1 (i .core))) (at + 1) (bytesOf 8 (C i))) (at + 9) (bytesOf 8 (T i))) (at + 17) (bytesOf 8 (D i))) (at + 25) (bytesOf 4 (H i))
       ≡ sets out at (recordBytes form i)
   unfolding recordBytes
   record-stores out at =
-      let a = bytes 1 (i .core) in
-      let b = a ++ bytes 8 (C i) in
-      let c = b ++ bytes 8 (T i) in
-      let first = sets-after a (bytes 8 (C i)) out at (at + 1) (simp bytes-length) in
-      let second = sets-after b (bytes 8 (T i)) out at (at + 9) (simp (length-append, bytes-length)) in
-      let third = sets-after c (bytes 8 (D i)) out at (at + 17) (simp (length-append, bytes-length)) in
-      rw (first, second, third) (sets-after (c ++ bytes 8 (D i)) (bytes 4 (H i)) out at (at + 25) (simp (length-append, bytes-length)))
+      let a = bytesOf 1 (i .core) in
+      let b = a ++ bytesOf 8 (C i) in
+      let c = b ++ bytesOf 8 (T i) in
+      let first = sets-after a (bytesOf 8 (C i)) out at (at + 1) (simp bytes-length) in
+      let second = sets-after b (bytesOf 8 (T i)) out at (at + 9) (simp (length-append, bytes-length)) in
+      let third = sets-after c (bytesOf 8 (D i)) out at (at + 17) (simp (length-append, bytes-length)) in
+      rw (first, second, third) (sets-after (c ++ bytesOf 8 (D i)) (bytesOf 4 (H i)) out at (at + 25) (simp (length-append, bytes-length)))
 
 pub trailer-stores : (s out : List ℕ) (at : ℕ)
-    → sets (sets (sets out at (bytes 4 (length s))) (at + 4) (bytes 4 (sumOf s))) (at + 8) (bytes 4 (runningSum s)) ≡ sets out at (trailer s)
+    → sets (sets (sets out at (bytesOf 4 (length s))) (at + 4) (bytesOf 4 (sumOf s))) (at + 8) (bytesOf 4 (runningSum s)) ≡ sets out at (trailer s)
 unfolding trailer
 trailer-stores s out at =
-    let a = bytes 4 (length s) in
-    rw (sets-after a (bytes 4 (sumOf s)) out at (at + 4) (simp bytes-length))
-    (sets-after (a ++ bytes 4 (sumOf s)) (bytes 4 (runningSum s)) out at (at + 8) (simp (length-append, bytes-length)))
+    let a = bytesOf 4 (length s) in
+    rw (sets-after a (bytesOf 4 (sumOf s)) out at (at + 4) (simp bytes-length))
+    (sets-after (a ++ bytesOf 4 (sumOf s)) (bytesOf 4 (runningSum s)) out at (at + 8) (simp (length-append, bytes-length)))
 
 -- a table's arrays, and counts that they have room for
 module _ (t : Table) (figures : length (t .timing) ≡ 15) (places : length (t .sets) ≡ 8) (cores : t .cores ≤ 8) where
   timing-bytes : List ℕ
-  timing-bytes = joined (map (bytes 2) (t .timing))
+  timing-bytes = joined (map (bytesOf 2) (t .timing))
 
   sets-bytes : List ℕ
-  sets-bytes = joined (map (bytes 2) (take (t .cores) (t .sets)))
+  sets-bytes = joined (map (bytesOf 2) (take (t .cores) (t .sets)))
 
   -- the sets start after the counts and the timing figures, and the records after the sets
   timing-ends : length (counts t ++ timing-bytes) ≡ setsAt (t .fourth)
   unfolding timing-bytes setsAt
-  timing-ends = rw length-append (omega (arith, joined-length (bytes 2) 2 (bytes-length 2) (t .timing)))
+  timing-ends = rw length-append (omega (arith, joined-length (bytesOf 2) 2 (bytes-length 2) (t .timing)))
 
   sets-end : length (counts t ++ timing-bytes ++ sets-bytes) ≡ recordsAt (t .fourth) (t .cores)
   unfolding sets-bytes
   sets-end =
-      rw (length-append (counts t ++ timing-bytes) sets-bytes, timing-ends, joined-take (bytes 2) 2 (bytes-length 2) (t .sets) (t .cores) (omega arith), records-are)
+      rw (length-append (counts t ++ timing-bytes) sets-bytes, timing-ends, joined-take (bytesOf 2) 2 (bytes-length 2) (t .sets) (t .cores) (omega arith), records-are)
 
   pub body-stores : (out : List ℕ)
-      → sets (sets (sets (sets out 0 (counts t)) 4 (joined (map (bytes 2) (take 15 (t .timing))))) (setsAt (t .fourth)) (joined (map (bytes 2) (take (t .cores) (t .sets)))))
+      → sets (sets (sets (sets out 0 (counts t)) 4 (joined (map (bytesOf 2) (take 15 (t .timing))))) (setsAt (t .fourth)) (joined (map (bytesOf 2) (take (t .cores) (t .sets)))))
       (recordsAt (t .fourth) (t .cores))
       (joined (map (recordBytes (t .fourth)) (tasksOf t)))
       ≡ sets out 0 (body t)

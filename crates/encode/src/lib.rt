@@ -4,7 +4,7 @@ ghost use Prim.Native.Nat.{_+_, _*_, _≤_};
 ghost use mathlib.Core.List.{map};
 ghost use lib.ListN.{length, take};
 ghost use lib.Seq.{sets};
-ghost use Rattle.laws.specs.Idioms.{joined, bytes};
+ghost use Rattle.laws.specs.Idioms.{joined, bytesOf};
 ghost use Rattle.rules.specs.Tasks.{tasksOf};
 ghost use Rattle.rules.specs.File.{recordsAt, recordAt, recordBytes, trailer, body};
 ghost use Rattle.encode.specs.Counts.{counts};
@@ -16,11 +16,11 @@ fn put_figures(out: &mut [u8], at: usize, figures: &[u16], n: usize)
     requires { ⌜ n ≤ length (now figures) ⌝ }
     requires { ⌜ n ≤ 255 ⌝ }
     requires { ⌜ at + 2 * n ≤ length (now out) ⌝ }
-    ensures { λ _. ⌜ now (out .exit) ≡ sets (now (out .entry)) at (joined (map (bytes 2) (take n (now (figures .entry))))) ⌝ }
+    ensures { λ _. ⌜ now (out .exit) ≡ sets (now (out .entry)) at (joined (map (bytesOf 2) (take n (now (figures .entry))))) ⌝ }
 {
     let mut i: usize = 0;
     while i < n {
-        bytes::put(out, at + 2 * i, figures[i] as u64, 2);
+        bytesOf::put(out, at + 2 * i, figures[i] as u64, 2);
         i += 1;
     }
 }
@@ -30,11 +30,11 @@ fn put_task(out: &mut [u8], at: usize, form: u8, task: Task)
     requires { ⌜ at + 29 ≤ length (now out) ⌝ }
     ensures { λ _. ⌜ now (out .exit) ≡ sets (now (out .entry)) at (recordBytes form task) ⌝ }
 {
-    bytes::put(out, at, task.core as u64, 1);
-    bytes::put(out, at + 1, task.exec.0, 8);
-    bytes::put(out, at + 9, task.period.0, 8);
-    bytes::put(out, at + 17, task.deadline.0, 8);
-    bytes::put(out, at + 25, task.requests as u64, 4);
+    bytesOf::put(out, at, task.core as u64, 1);
+    bytesOf::put(out, at + 1, task.exec.0, 8);
+    bytesOf::put(out, at + 9, task.period.0, 8);
+    bytesOf::put(out, at + 17, task.deadline.0, 8);
+    bytesOf::put(out, at + 25, task.requests as u64, 4);
 }
 
 // "Places of a table beyond its counts are ignored by the writer"
@@ -95,7 +95,7 @@ pub fn put_trailer(out: &mut [u8], e: usize)
     ensures { λ _. ⌜ now (out .exit) ≡ sets (now (out .entry)) e (trailer (take e (now (out .entry)))) ⌝ }
 {
     let total = sums::sums(&out[..e]);
-    bytes::put(out, e, e as u64, 4);
-    bytes::put(out, e + 4, total.sum, 4);
-    bytes::put(out, e + 8, total.running, 4);
+    bytesOf::put(out, e, e as u64, 4);
+    bytesOf::put(out, e + 4, total.sum, 4);
+    bytesOf::put(out, e + 8, total.running, 4);
 }

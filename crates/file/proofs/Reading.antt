@@ -12,11 +12,11 @@ use Rattle.rules.specs.Chain.{accepted, refused, isAccepted, _orElse_, given}
 use Rattle.rules.specs.Refusals.{countsFault, boardRefusal, checkBoard, checkTasks, checkTable, askedFault}
 use Rattle.rules.specs.File.{coresIn, tasksIn, formIn, fileLength, recordIn, checkWhole, decode}
 use Rattle.rules.specs.Operations.{checkFile, reading, checkView, viewing}
-use Rattle.rules.proofs.Chain.{both-accepted, no-fault}
+use Rattle.facts.proofs.Chain.{both-accepted, no-fault}
 use Rattle.laws.specs.Idioms.{Within}
 use Rattle.laws.proofs.Tests.{inside}
-use Rattle.rules.proofs.Accepted.{sound}
-use Rattle.rules.proofs.Reading.{file-whole, decoded-accepted}
+use Rattle.facts.proofs.Accepted.{sound}
+use Rattle.facts.proofs.Reading.{file-whole, decoded-accepted}
 use Rattle.file.specs.Places.{Sized}
 use Rattle.file.specs.Answers.{readNothing}
 use Rattle.whole.proofs.Came.{whole}

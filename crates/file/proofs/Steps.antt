@@ -9,7 +9,7 @@ use lib.Seq.{sets}
 use Rattle.rules.specs.declared.Task.{Task}
 use Rattle.rules.specs.Tasks.{noTask, taskOf}
 use Rattle.rules.specs.File.{recordSize, recordAt, recordIn, recordTask, coresIn, tasksIn, formIn, decode}
-use Rattle.laws.specs.Idioms.{number, part, filled}
+use Rattle.laws.specs.Idioms.{numberIn, part, filled}
 use Rattle.laws.proofs.Fill.{fill-step}
 use Rattle.laws.proofs.Places.{place-of}
 use Rattle.laws.proofs.Parts.{part-length}
@@ -19,11 +19,11 @@ use Rattle.file.specs.Places.{figuresIn, tasksTo}
 
 module _ (s : List ℕ) where
   pub figures-length : (at n : ℕ) → length (figuresIn s at n) ≡ n
-  figures-length at n = length-map-from (λ k. number (part s (at + 2 * k) 2)) n 0
+  figures-length at n = length-map-from (λ k. numberIn (part s (at + 2 * k) 2)) n 0
 
-  pub figure-next : (at i : ℕ) (l : List ℕ) → set (sets l 0 (figuresIn s at i)) i (number (part s (at + 2 * i) 2)) ≡ sets l 0 (figuresIn s at (i + 1))
+  pub figure-next : (at i : ℕ) (l : List ℕ) → set (sets l 0 (figuresIn s at i)) i (numberIn (part s (at + 2 * i) 2)) ≡ sets l 0 (figuresIn s at (i + 1))
   figure-next at i l =
-      let f : ℕ → ℕ = λ k. number (part s (at + 2 * k) 2) in
+      let f : ℕ → ℕ = λ k. numberIn (part s (at + 2 * k) 2) in
       rw (map-below-next f i) (sets-next l (figuresIn s at i) i (f i) (figures-length at i))
 
   -- the part where record k starts, as code takes it; its figures are in it

@@ -11,12 +11,12 @@ use Rattle.rules.specs.declared.Answer.{Answer}
 use Rattle.rules.specs.declared.Judged.{Judged}
 use Rattle.rules.specs.Tasks.{latest, taskOf}
 use Rattle.rules.specs.Judgement.{misses, judge}
-use Rattle.rules.specs.Sound.{Sound}
+use Rattle.facts.specs.Sound.{Sound}
 use Rattle.rules.specs.Refusals.{checkJudged, askedFault, lateStart, highStart, checkOne, checkAll, checkStart}
 use Rattle.rules.specs.Operations.{judgeOne, judgeAll}
-use Rattle.rules.proofs.Chain.{both-accepted, first-refuses, second-decides, no-fault}
-use Rattle.rules.proofs.Accepted.{sound}
-use Rattle.rules.proofs.Starts.{judged-accepted}
+use Rattle.facts.proofs.Chain.{both-accepted, first-refuses, second-decides, no-fault}
+use Rattle.facts.proofs.Accepted.{sound}
+use Rattle.facts.proofs.Starts.{judged-accepted}
 use Rattle.laws.specs.Idioms.{entry, Within}
 use Rattle.laws.proofs.Tests.{inside}
 use Rattle.climb.specs.declared.Climbed.{Climbed}

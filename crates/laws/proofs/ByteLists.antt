@@ -5,7 +5,7 @@ use mathlib.Core.List.{List, [], _∷_, _++_, map}
 use Prim.Native.Nat.{ℕ, zero, suc, _+_, _≤_, _<_}
 use lib.ListN.{length, take, drop, set}
 use lib.Seq.{take-add, drop-drop}
-use Rattle.laws.specs.Idioms.{joined, number, bytes, part}
+use Rattle.laws.specs.Idioms.{joined, numberIn, bytesOf, part}
 use Rattle.laws.specs.Bytes.{Bytes, none, more}
 use Rattle.laws.proofs.Bytes.{bytes-number}
 use Rattle.laws.proofs.Parts.{part-length}
@@ -34,7 +34,7 @@ bytes-joined f h [] = none
 bytes-joined f h (x ∷ l) = bytes-append (h x) (bytes-joined f h l)
 
 -- k bytes are those of their number
-pub known-by-number : (k : ℕ) (l : List ℕ) → Bytes l → length l ≡ k → bytes k (number l) ≡ l
+pub known-by-number : (k : ℕ) (l : List ℕ) → Bytes l → length l ≡ k → bytesOf k (numberIn l) ≡ l
 known-by-number k l b e = rw e at (bytes-number b)
 
 module _ (s : List ℕ) (at : ℕ) where
@@ -42,5 +42,5 @@ module _ (s : List ℕ) (at : ℕ) where
   pub part-join : (j k : ℕ) → part s at j ++ part s (at + j) k ≡ part s at (j + k)
   part-join j k = rw (take-add j k (drop at s), drop-drop j at s)
 
-  pub part-known : (k : ℕ) → Bytes s → at + k ≤ length s → bytes k (number (part s at k)) ≡ part s at k
+  pub part-known : (k : ℕ) → Bytes s → at + k ≤ length s → bytesOf k (numberIn (part s at k)) ≡ part s at k
   part-known k b h = known-by-number k (part s at k) (bytes-take k (bytes-drop at b)) (part-length s at k h)

@@ -6,10 +6,10 @@ use native.Mathlib.Omega.{arith}
 use native.Mathlib.Nat.{pow-suc, add-zero}
 use lib.ListN.{length, length-drop, drop, getD, set}
 use lib.Seq.{sets, take-add, drop-drop, drop-cons, length-take-le}
-use Rattle.laws.specs.Idioms.{from, below, number, bytes, part}
+use Rattle.laws.specs.Idioms.{from, below, numberIn, bytesOf, part}
 
-number-append : (xs ys : List ℕ) → number (xs ++ ys) ≡ number xs + 256 ^ length xs * number ys
-unfolding number
+number-append : (xs ys : List ℕ) → numberIn (xs ++ ys) ≡ numberIn xs + 256 ^ length xs * numberIn ys
+unfolding numberIn
 number-append [] ys = omega arith
 number-append (x ∷ xs) ys = rw pow-suc (omega (arith, number-append xs ys))
 
@@ -17,11 +17,11 @@ module _ (s : List ℕ) (at : ℕ) where
   pub part-length : (n : ℕ) → at + n ≤ length s → length (part s at n) ≡ n
   part-length n h = length-take-le n (drop at s) (rw length-drop (omega arith))
 
-  pub number-part : (m n : ℕ) → at + m ≤ length s → number (part s at (m + n)) ≡ number (part s at m) + 256 ^ m * number (part s (at + m) n)
+  pub number-part : (m n : ℕ) → at + m ≤ length s → numberIn (part s at (m + n)) ≡ numberIn (part s at m) + 256 ^ m * numberIn (part s (at + m) n)
   number-part m n h = rw (take-add, drop-drop, number-append, part-length m h)
 
-  pub number-one : at < length s → number (part s at 1) ≡ getD s at 0
-  unfolding number
+  pub number-one : at < length s → numberIn (part s at 1) ≡ getD s at 0
+  unfolding numberIn
   number-one h = rw (drop-cons s at 0 h) (omega arith)
 
   -- a part by its bytes
@@ -36,8 +36,8 @@ module _ (s : List ℕ) (at : ℕ) where
   part-eight h = rw add-zero at (part-from 0 8 h)
 
 pub byte-next : (l : List ℕ) (at v n i : ℕ) → i < n
-    → sets l (at + i) (bytes (n - i) v) ≡ sets (set l (at + i) (v % 256)) (at + (i + 1)) (bytes (n - (i + 1)) (v / 256))
-unfolding bytes
+    → sets l (at + i) (bytesOf (n - i) v) ≡ sets (set l (at + i) (v % 256)) (at + (i + 1)) (bytesOf (n - (i + 1)) (v / 256))
+unfolding bytesOf
 byte-next l at v n i h =
     let e : n - i ≡ suc (n - (i + 1)) = omega arith in
     let f : at + (i + 1) ≡ suc (at + i) = omega arith in

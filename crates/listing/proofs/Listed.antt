@@ -10,8 +10,8 @@ use Rattle.rules.specs.Chain.{isAccepted}
 use Rattle.rules.specs.Refusals.{checkTable}
 use Rattle.rules.specs.Operations.{reading, judgeAll}
 use Rattle.rules.specs.Listing.{listing}
-use Rattle.rules.proofs.Accepted.{sound}
-use Rattle.rules.proofs.Reading.{read-accepted}
+use Rattle.facts.proofs.Accepted.{sound}
+use Rattle.facts.proofs.Reading.{read-accepted}
 use Rattle.listing.specs.Lines.{tableText, refusedLine}
 use Rattle.listing.proofs.TableLines.{text-whole}
 

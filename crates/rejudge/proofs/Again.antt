@@ -10,7 +10,7 @@ use Rattle.rules.specs.Chain.{isAccepted}
 use Rattle.rules.specs.Refusals.{checkJudged}
 use Rattle.rules.specs.Order.{worsens}
 use Rattle.rules.specs.Operations.{answersFrom, fresh, olderBound, checkBoth, isCarried, rejudging}
-use Rattle.rules.proofs.Again.{rejudged-verdicts}
+use Rattle.facts.proofs.Again.{rejudged-verdicts}
 use Rattle.rejudge.specs.Carried.{notRejudged, Carried}
 
 module _ (older newer : Table) where

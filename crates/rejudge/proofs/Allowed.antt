@@ -4,21 +4,21 @@ use mathlib.Core.Bool.{true, false}
 use mathlib.Core.List.{List, map}
 use Prim.Native.Nat.{ℕ, zero, suc, _-_, _≤_}
 use lib.ListN.{length, getD, replicate, List·getD-map}
-use Rattle.equation.proofs.Judge.{fresh-allowed}
+use Rattle.equation.proofs.Solve.{fresh-allowed}
 use Rattle.rules.specs.declared.Table.{Table}
 use Rattle.rules.specs.Judgement.{misses, judge}
 use Rattle.rules.specs.Order.{worsens}
 use Rattle.rules.specs.Refusals.{checkTable, lateStart, highStart, checkAll}
 use Rattle.rules.specs.Operations.{answersFrom, fresh, olderBound, judgeAll}
-use Rattle.rules.proofs.Accepted.{sound}
-use Rattle.rules.proofs.First.{first-none}
+use Rattle.facts.proofs.Accepted.{sound}
+use Rattle.facts.proofs.First.{first-none}
 use Rattle.laws.specs.Idioms.{upTo, entry}
-use Rattle.rules.proofs.Instance.{equation-of, lowest-fits}
+use Rattle.facts.proofs.Instance.{equation-of, lowest-fits}
 use Rattle.rules.specs.Chain.{accepted, isAccepted}
-use Rattle.rules.proofs.Starts.{accepted-judged, allowed-passes}
-use Rattle.rules.proofs.LentStarts.{answers-same}
-use Rattle.rules.proofs.Points.{carried-judgeable}
-use Rattle.rules.proofs.Worsened.{worsened}
+use Rattle.facts.proofs.Starts.{accepted-judged, allowed-passes}
+use Rattle.facts.proofs.LentStarts.{answers-same}
+use Rattle.facts.proofs.Points.{carried-judgeable}
+use Rattle.facts.proofs.Worsened.{worsened}
 use Rattle.laws.proofs.Runs.{length-map-from}
 use Rattle.laws.proofs.Filled.{only-default, filled-length}
 use Rattle.laws.proofs.Places.{place-of}

@@ -11,7 +11,7 @@ use Rattle.laws.specs.Idioms.{entry}
 use Rattle.rules.specs.Judgement.{boundOf}
 use Rattle.rules.specs.Operations.{answersFrom, noAnswers, fresh, rejudging, verdicts}
 use Rattle.rules.specs.Chain.{isAccepted}
-use Rattle.rules.specs.Starts.{AllowedStart}
+use Rattle.facts.specs.Starts.{AllowedStart}
 
 -- "each task started from its older bound, or 0 where it missed"
 abbrev pub startOf : Answer → ℕ

@@ -14,7 +14,7 @@ use Rattle.rules.specs.declared.AllJudged.{AllJudged}
 use Rattle.rules.specs.Judgement.{misses}
 use Rattle.rules.specs.Chain.{accepted, refused, isAccepted}
 use Rattle.rules.specs.Operations.{noAnswers}
-use Rattle.rules.proofs.First.{Left, left-all, left-hit, left-next, left-none, none-first, first-none}
+use Rattle.facts.proofs.First.{Left, left-all, left-hit, left-next, left-none, none-first, first-none}
 use Rattle.rounds.specs.Lent.{Lent, climbedAt, firstLowered, firstAfter, answeredOr, judgedLent}
 use Rattle.rounds.proofs.OnTime.{after}
 

@@ -9,7 +9,7 @@ use lib.ListN.{getD}
 use borrow.Author.Tests.{lt-ltb, le-ltb, ltb-false}
 use Rattle.laws.specs.Idioms.{entry}
 use Rattle.rules.specs.Chain.{isAccepted}
-use Rattle.rules.proofs.First.{none-first}
+use Rattle.facts.proofs.First.{none-first}
 use Rattle.rounds.specs.Lent.{OnTime, firstAfter}
 
 abbrev pub after : List ℕ → List ℕ → ℕ → Bool

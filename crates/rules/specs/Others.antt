@@ -1,5 +1,5 @@
 -- The other tasks that have a part in a task's response equation, and the limit that they set on its rounds. Assumes nothing.
-use mathlib.Core.List.{List, _++_, map}
+use mathlib.Core.List.{List, _++_}
 use Prim.Native.Nat.{ℕ, _+_, _-_}
 use Rattle.rules.specs.declared.Task.{Task}
 use Rattle.rules.specs.declared.Table.{Table}
@@ -9,10 +9,6 @@ use Rattle.rules.specs.Tasks.{releases, latest, taskOf, coreOf, higher, 
 -- the higher tasks of its core, and the tasks elsewhere
 abbrev pub others : Table → ℕ → List Task
 others t k = higher t k ++ elsewhere t (coreOf t k)
-
--- the counts through which F looks at the time
-abbrev pub countsOf : Table → ℕ → List (ℕ → ℕ)
-countsOf t k = map releases (others t k)
 
 -- two rounds, and for each other task its periods begun within the latest allowed response, less one each:
 -- "Point 3's periods begun are D/Tj rounded up, D being the judged task's and Tj the newer table's."

@@ -6,7 +6,7 @@ use native.Mathlib.Omega.{arith}
 use native.Mathlib.Nat.{add-zero}
 use lib.ListN.{length, getD}
 use Rattle.rules.specs.File.{sumOf, runningSum}
-use Rattle.laws.specs.Idioms.{from, number, part}
+use Rattle.laws.specs.Idioms.{from, numberIn, part}
 use Rattle.laws.proofs.Parts.{part-eight}
 use Rattle.sums.specs.Lanes.{lanes, evensOf, addedOf, weighedOf, early}
 
@@ -68,29 +68,29 @@ module _ (a b c d e f g h : ℕ) (ha : a < 256) (hb : b < 256) (hc : c < 256) (h
   eight : List ℕ
   eight = a ∷ b ∷ c ∷ d ∷ e ∷ f ∷ g ∷ h ∷ []
 
-  evens-word : Split 255 (evensOf (number eight))
-  unfolding eight evensOf number
+  evens-word : Split 255 (evensOf (numberIn eight))
+  unfolding eight evensOf numberIn
   evens-word = record { a = a; b = c; c = e; d = g; is = simp (bytes-off, byte-of); small = omega arith }
 
-  odds-word : Split 255 (evensOf (number eight / 256))
-  unfolding eight evensOf number
+  odds-word : Split 255 (evensOf (numberIn eight / 256))
+  unfolding eight evensOf numberIn
   odds-word = record { a = b; b = d; c = f; d = h; is = simp (byte-off, bytes-off, byte-of, add-zero, byte-last); small = omega arith }
 
-  word-sums : (addedOf (evensOf (number eight)) + addedOf (evensOf (number eight / 256)) ≡ sumOf eight)
-      × (runningSum eight + early (evensOf (number eight)) (evensOf (number eight / 256)) ≡ 8 * sumOf eight)
+  word-sums : (addedOf (evensOf (numberIn eight)) + addedOf (evensOf (numberIn eight / 256)) ≡ sumOf eight)
+      × (runningSum eight + early (evensOf (numberIn eight)) (evensOf (numberIn eight / 256)) ≡ 8 * sumOf eight)
   unfolding eight evens-word odds-word runningSum
   word-sums = omega (arith, out evens-word (omega arith), out odds-word (omega arith))
 
 module _ (s : List ℕ) (byte : (i : ℕ) → getD s i 0 < 256) (n : ℕ) (room : n + 8 ≤ length s) where
-  pub evens-at : Split 255 (evensOf (number (part s n 8)))
+  pub evens-at : Split 255 (evensOf (numberIn (part s n 8)))
   unfolding from eight
   evens-at = rw (part-eight s n room) (evens-word _ _ _ _ _ _ _ _ (byte _) (byte _) (byte _) (byte _) (byte _) (byte _) (byte _) (byte _))
 
-  pub odds-at : Split 255 (evensOf (number (part s n 8) / 256))
+  pub odds-at : Split 255 (evensOf (numberIn (part s n 8) / 256))
   unfolding from eight
   odds-at = rw (part-eight s n room) (odds-word _ _ _ _ _ _ _ _ (byte _) (byte _) (byte _) (byte _) (byte _) (byte _) (byte _) (byte _))
 
-  pub sums-at : let w = part s n 8 in (addedOf (evensOf (number w)) + addedOf (evensOf (number w / 256)) ≡ sumOf w)
-      × (runningSum w + early (evensOf (number w)) (evensOf (number w / 256)) ≡ 8 * sumOf w)
+  pub sums-at : let w = part s n 8 in (addedOf (evensOf (numberIn w)) + addedOf (evensOf (numberIn w / 256)) ≡ sumOf w)
+      × (runningSum w + early (evensOf (numberIn w)) (evensOf (numberIn w / 256)) ≡ 8 * sumOf w)
   unfolding from eight
   sums-at = rw (part-eight s n room) (word-sums _ _ _ _ _ _ _ _ (byte _) (byte _) (byte _) (byte _) (byte _) (byte _) (byte _) (byte _))

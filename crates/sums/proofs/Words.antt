@@ -6,7 +6,7 @@ use native.Mathlib.Omega.{arith}
 use native.Mathlib.Nat.{add-sub-cancel-left}
 use lib.ListN.{length, take, getD}
 use lib.Seq.{take-all}
-use Rattle.laws.specs.Idioms.{number, part}
+use Rattle.laws.specs.Idioms.{numberIn, part}
 use Rattle.rules.specs.File.{sumOf, runningSum}
 use Rattle.sums.specs.Sums.{sumsOf}
 use Rattle.sums.specs.Lanes.{evensOf, addedOf, weighedOf, early, sumsIn}
@@ -28,10 +28,10 @@ held-none s = record { evens = none; odds = none; even-runs = none; odd-runs = n
 
 module _ (s : List ℕ) (k : ℕ) {e o re ro : ℕ} (held : Held s k e o re ro) where
   -- one word more
-  pub held-next : ((i : ℕ) → getD s i 0 < 256) → 8 * k + 8 ≤ length s → k < 16 → let w = number (part s (8 * k) 8) in
+  pub held-next : ((i : ℕ) → getD s i 0 < 256) → 8 * k + 8 ≤ length s → k < 16 → let w = numberIn (part s (8 * k) 8) in
       Held s (k + 1) (e + evensOf w) (o + evensOf (w / 256)) (re + (e + evensOf w)) (ro + (o + evensOf (w / 256)))
   held-next byte room few =
-      let w = number (part s (8 * k) 8) in
+      let w = numberIn (part s (8 * k) 8) in
       let even : Split (255 * (k + 1)) (e + evensOf w) = plus (held .evens) (evens-at s byte (8 * k) room) (omega arith) in
       let odd : Split (255 * (k + 1)) (o + evensOf (w / 256)) = plus (held .odds) (odds-at s byte (8 * k) room) (omega arith) in
       let evens = plus-out (held .evens) (evens-at s byte (8 * k) room) (omega arith) in

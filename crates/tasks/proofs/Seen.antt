@@ -7,7 +7,7 @@ use borrow.Author.Tests.{ne-eqb}
 use Rattle.rules.specs.declared.Task.{Task}
 use Rattle.rules.specs.Chain.{refused, first}
 use Rattle.rules.specs.Refusals.{coreFault, timeFault, requestFault, tasksRefusal}
-use Rattle.rules.proofs.First.{Left, left-all, left-hit, left-next, left-none}
+use Rattle.facts.proofs.First.{Left, left-all, left-hit, left-next, left-none}
 use Rattle.tasks.specs.declared.Faults.{Faults}
 use Rattle.tasks.specs.Faults.{earliest, noFaults, withTask, placed, toldBy}
 

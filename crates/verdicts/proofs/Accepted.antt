@@ -8,11 +8,11 @@ use lib.ListN.{getD}
 use Rattle.rules.specs.declared.Task.{Task}
 use Rattle.rules.specs.Chain.{isAccepted}
 use Rattle.rules.specs.Tasks.{noTask, taskOf}
-use Rattle.rules.specs.Sound.{Sound}
+use Rattle.facts.specs.Sound.{Sound}
 use Rattle.rules.specs.File.{tasksIn, decode}
 use Rattle.rules.specs.Operations.{checkFile}
-use Rattle.rules.proofs.Accepted.{sound}
-use Rattle.rules.proofs.Reading.{decoded-accepted}
+use Rattle.facts.proofs.Accepted.{sound}
+use Rattle.facts.proofs.Reading.{decoded-accepted}
 
 module _ (s : List ℕ) where
   pub tasks-are : decode s .tasks ≡ tasksIn s

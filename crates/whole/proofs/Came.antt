@@ -8,16 +8,16 @@ use lib.ListN.{length, take}
 use borrow.Author.Tests.{ltb-false, le-ltb, eqb-true, eq-eqb, not-false}
 use Rattle.rules.specs.File.{checkTrailer, fileLength, coresIn, tasksIn, formIn, sumOf, runningSum, checkWhole}
 use Rattle.rules.specs.Chain.{accepted, isAccepted, given, _orElse_}
-use Rattle.rules.proofs.Chain.{both-accepted, no-fault}
-use Rattle.laws.specs.Idioms.{number, part}
+use Rattle.facts.proofs.Chain.{both-accepted, no-fault}
+use Rattle.laws.specs.Idioms.{numberIn, part}
 use Rattle.laws.proofs.Tests.{or-neither}
 
 pub record Whole (s : List ℕ) : Type 0 where
   pub long : 46 ≤ length s
   pub sized : length s ≡ fileLength (formIn s) (coresIn s) (tasksIn s)
-  pub counted : number (part s (length s - 12) 4) ≡ length s - 12
-  pub summed : number (part s (length s - 8) 4) ≡ sumOf (take (length s - 12) s)
-  pub resummed : number (part s (length s - 4) 4) ≡ runningSum (take (length s - 12) s)
+  pub counted : numberIn (part s (length s - 12) 4) ≡ length s - 12
+  pub summed : numberIn (part s (length s - 8) 4) ≡ sumOf (take (length s - 12) s)
+  pub resummed : numberIn (part s (length s - 4) 4) ≡ runningSum (take (length s - 12) s)
 
 -- two links and two more that give none
 no-faults : (a b c d : Bool) → isAccepted (given 1 0 a orElse given 2 0 b orElse (given 3 0 c orElse given 4 0 d)) ≡ true

@@ -4,7 +4,7 @@ use mathlib.Core.List.{List}
 use Prim.Native.Nat.{ℕ, _-_, _<_, _≤_}
 use lib.ListN.{length, take}
 use borrow.Author.Tests.{lt-ltb, le-ltb, eq-eqb, ne-eqb}
-use Rattle.laws.specs.Idioms.{number, part}
+use Rattle.laws.specs.Idioms.{numberIn, part}
 use Rattle.rules.specs.File.{fileLength, coresIn, tasksIn, formIn, sumOf, runningSum, checkWhole, checkTrailer}
 use Rattle.rules.specs.Chain.{accepted, refused}
 
@@ -21,20 +21,20 @@ module _ (s : List ℕ) where
   unfolding checkWhole checkTrailer
   right-length h e = rw (le-ltb _ _ h, eq-eqb _ _ e)
 
-  pub wrong-count : (number (part s (length s - 12) 4) ≡ length s - 12 → ⊥) → checkTrailer s ≡ refused 3 0
+  pub wrong-count : (numberIn (part s (length s - 12) 4) ≡ length s - 12 → ⊥) → checkTrailer s ≡ refused 3 0
   unfolding checkTrailer
   wrong-count n = rw (ne-eqb _ _ n)
 
-  module _ (counted : number (part s (length s - 12) 4) ≡ length s - 12) where
-    pub wrong-sum : (number (part s (length s - 8) 4) ≡ sumOf (take (length s - 12) s) → ⊥) → checkTrailer s ≡ refused 4 0
+  module _ (counted : numberIn (part s (length s - 12) 4) ≡ length s - 12) where
+    pub wrong-sum : (numberIn (part s (length s - 8) 4) ≡ sumOf (take (length s - 12) s) → ⊥) → checkTrailer s ≡ refused 4 0
     unfolding checkTrailer
     wrong-sum n = rw (eq-eqb _ _ counted, ne-eqb _ _ n)
 
-    module _ (summed : number (part s (length s - 8) 4) ≡ sumOf (take (length s - 12) s)) where
-      pub wrong-running : (number (part s (length s - 4) 4) ≡ runningSum (take (length s - 12) s) → ⊥) → checkTrailer s ≡ refused 4 0
+    module _ (summed : numberIn (part s (length s - 8) 4) ≡ sumOf (take (length s - 12) s)) where
+      pub wrong-running : (numberIn (part s (length s - 4) 4) ≡ runningSum (take (length s - 12) s) → ⊥) → checkTrailer s ≡ refused 4 0
       unfolding checkTrailer
       wrong-running n = rw (eq-eqb _ _ counted, eq-eqb _ _ summed, ne-eqb _ _ n)
 
-      pub trailer-right : number (part s (length s - 4) 4) ≡ runningSum (take (length s - 12) s) → checkTrailer s ≡ accepted
+      pub trailer-right : numberIn (part s (length s - 4) 4) ≡ runningSum (take (length s - 12) s) → checkTrailer s ≡ accepted
       unfolding checkTrailer
       trailer-right e = rw (eq-eqb _ _ counted, eq-eqb _ _ summed, eq-eqb _ _ e)

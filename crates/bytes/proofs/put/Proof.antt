@@ -6,13 +6,13 @@ use native.Mathlib.Omega.{arith}
 use borrow.Author.Needs.{needs}
 use lib.ListN.{length, length-set}
 use lib.Seq.{sets}
-use Rattle.laws.specs.Idioms.{bytes}
+use Rattle.laws.specs.Idioms.{bytesOf}
 use Rattle.laws.proofs.Parts.{byte-next}
 use Rattle.bytes.proofs.put.Statement.{statement}
 use Rattle.bytes.proofs.put.Tie as tie
 
 abbrev Inv-loop : tie.InvT-loop
-Inv-loop out₀ at v n w₀ i₀ out w i = (i ≤ n) × (length out ≡ length out₀) × (sets out₀ at (bytes n v) ≡ sets out (at + i) (bytes (n - i) w))
+Inv-loop out₀ at v n w₀ i₀ out w i = (i ≤ n) × (length out ≡ length out₀) × (sets out₀ at (bytesOf n v) ≡ sets out (at + i) (bytesOf (n - i) w))
 
 abbrev μ-loop : tie.MeasureT-loop
 μ-loop out₀ at v n w₀ i₀ out w i = n - i
@@ -24,7 +24,7 @@ loop-again c =
     (search needs, simp length-set (l .inv .1), l .inv .2 ∙ byte-next (l .out) (a .at) (l .w) (a .n) (l .i) (omega arith))
 
 returns : tie.Need-returns Inv-loop μ-loop
-unfolding bytes
+unfolding bytesOf
 returns c = let e : c .before .before .args .n - c .before .loop .i ≡ 0 = omega arith in sym (c .before .loop .inv .2 ∙ rw e)
 
 pub put-spec : {M : Type 1} → statement M

@@ -6,7 +6,7 @@ use native.Mathlib.Omega.{arith}
 use Rattle.rules.specs.Chain.{isAccepted}
 use Rattle.rules.specs.File.{decode}
 use Rattle.rules.specs.Operations.{checkFile, judgeAll}
-use Rattle.rules.proofs.Chain.{passes}
+use Rattle.facts.proofs.Chain.{passes}
 use Rattle.file.proofs.Reading.{file-sized, file-counts}
 use Rattle.capi.proofs.Judging.{lentStarts, file-refused, start-refused, all-judged}
 use Rattle.capi.proofs.ryb_judge.Statement.{statement}

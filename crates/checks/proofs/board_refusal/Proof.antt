@@ -2,7 +2,7 @@
 use mathlib.Core.Path.{sym, _∙_}
 use borrow.Author.Needs.{needs}
 use Rattle.checks.proofs.Counts.{counts-refuse, counts-pass, counts-inside}
-use Rattle.rules.proofs.Chain.{stops, goes-on}
+use Rattle.facts.proofs.Chain.{stops, goes-on}
 use Rattle.checks.proofs.board_refusal.Statement.{statement}
 use Rattle.checks.proofs.board_refusal.Tie as tie
 

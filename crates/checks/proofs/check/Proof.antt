@@ -1,7 +1,7 @@
 -- 5 to 11 in their order. Assumes nothing.
 use borrow.Author.Needs.{needs}
 use Rattle.rules.specs.Refusals.{checkTable}
-use Rattle.rules.proofs.Chain.{stops, goes-on}
+use Rattle.facts.proofs.Chain.{stops, goes-on}
 use Rattle.checks.proofs.check.Statement.{statement}
 use Rattle.checks.proofs.check.Tie as tie
 

@@ -8,7 +8,7 @@ use native.Mathlib.Omega.{arith}
 use lib.ListN.{getD}
 use Rattle.laws.specs.Idioms.{entry}
 use Rattle.rules.specs.Refusals.{setFault}
-use Rattle.rules.proofs.First.{Left, left-all, left-hit, left-next, left-none}
+use Rattle.facts.proofs.First.{Left, left-all, left-hit, left-next, left-none}
 use Rattle.checks.proofs.check_sets.Statement.{statement}
 use Rattle.checks.proofs.check_sets.Tie as tie
 

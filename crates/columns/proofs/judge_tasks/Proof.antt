@@ -1,7 +1,7 @@
 -- Every task. Assumes nothing.
 use borrow.Author.Needs.{needs}
 use mathlib.Core.Path.{refl, _∙_}
-use Rattle.rules.proofs.Accepted.{sound}
+use Rattle.facts.proofs.Accepted.{sound}
 use Rattle.columns.proofs.Holding.{of-judgeable}
 use Rattle.columns.proofs.AllJudged.{judged-is}
 use Rattle.columns.proofs.judge_tasks.Statement.{statement}

@@ -6,14 +6,14 @@ use native.Mathlib.Omega.{arith}
 use borrow.Author.Needs.{needs}
 use lib.ListN.{length, take}
 use lib.Seq.{sets}
-use Rattle.laws.specs.Idioms.{joined, bytes}
+use Rattle.laws.specs.Idioms.{joined, bytesOf}
 use Rattle.laws.proofs.Bytes.{bytes-length}
 use Rattle.laws.proofs.Runs.{store-next}
 use Rattle.encode.proofs.put_figures.Statement.{statement}
 use Rattle.encode.proofs.put_figures.Tie as tie
 
 abbrev Inv-loop : tie.InvT-loop
-Inv-loop out₀ at figures n i₀ out i = (i ≤ n) × (length out ≡ length out₀) × (out ≡ sets out₀ at (joined (map (bytes 2) (take i figures))))
+Inv-loop out₀ at figures n i₀ out i = (i ≤ n) × (length out ≡ length out₀) × (out ≡ sets out₀ at (joined (map (bytesOf 2) (take i figures))))
 
 abbrev μ-loop : tie.MeasureT-loop
 μ-loop out₀ at figures n i₀ out i = n - i
@@ -23,7 +23,7 @@ loop-again c =
     let p = c .before .before in
     let l = p .before .before .before .before .loop in
     let a = p .before .before .before .before .before .before .before .args in
-    (search needs, search needs, rw (p .put .ensures, l .inv .2) (store-next (bytes 2) 2 (bytes-length 2) (a .out .now) (a .at) (a .figures .now) (l .i) 0 (omega arith)))
+    (search needs, search needs, rw (p .put .ensures, l .inv .2) (store-next (bytesOf 2) 2 (bytes-length 2) (a .out .now) (a .at) (a .figures .now) (l .i) 0 (omega arith)))
 
 pub put-figures-spec : {M : Type 1} → statement M
 put-figures-spec =

@@ -6,7 +6,7 @@ use borrow.Author.Needs.{needs}
 use borrow.Author.Tests.{eq-eqb, ne-eqb}
 use Rattle.rules.specs.Chain.{isAccepted}
 use Rattle.rules.specs.File.{checkWhole}
-use Rattle.rules.proofs.Chain.{stops, goes-on}
+use Rattle.facts.proofs.Chain.{stops, goes-on}
 use Rattle.file.proofs.Reading.{not-whole, whole-sized, counted-out, by-parts}
 use Rattle.file.proofs.check.Statement.{statement}
 use Rattle.file.proofs.check.Tie as tie

@@ -5,9 +5,9 @@ use mathlib.Core.Bool.{true}
 use native.Mathlib.Omega.{arith}
 use Rattle.rules.specs.Chain.{isAccepted}
 use Rattle.rules.specs.Refusals.{checkJudged}
-use Rattle.rules.proofs.Accepted.{sound}
-use Rattle.rules.proofs.Starts.{judged-accepted}
-use Rattle.rules.proofs.Chain.{passes, refuses}
+use Rattle.facts.proofs.Accepted.{sound}
+use Rattle.facts.proofs.Starts.{judged-accepted}
+use Rattle.facts.proofs.Chain.{passes, refuses}
 use Rattle.judge.proofs.Links.{start-table, start-low, start-high, start-late, start-passes}
 use Rattle.judge.proofs.check_start.Statement.{statement}
 use Rattle.judge.proofs.check_start.Tie as tie

@@ -1,8 +1,8 @@
 -- The judgement of all tasks: the checks before it, then 13, 14 or the answers. Assumes nothing.
 use borrow.Author.Needs.{needs}
 use mathlib.Core.Path.{_∙_, ap}
-use Rattle.rules.proofs.Starts.{judged-accepted}
-use Rattle.rules.proofs.Chain.{passes, refuses}
+use Rattle.facts.proofs.Starts.{judged-accepted}
+use Rattle.facts.proofs.Chain.{passes, refuses}
 use Rattle.rounds.specs.Lent.{noneJudged}
 use Rattle.judge.proofs.Links.{all-table}
 use Rattle.judge.proofs.judge_all.Statement.{statement}

@@ -8,10 +8,10 @@ use Rattle.laws.specs.Idioms.{entry}
 use Rattle.rules.specs.Chain.{isAccepted}
 use Rattle.rules.specs.Refusals.{checkJudged}
 use Rattle.rules.specs.Operations.{answersFrom, fresh}
-use Rattle.rules.proofs.Starts.{judged-accepted}
-use Rattle.rules.proofs.LentStarts.{answers-same}
+use Rattle.facts.proofs.Starts.{judged-accepted}
+use Rattle.facts.proofs.LentStarts.{answers-same}
 use Rattle.rejudge.specs.Carried.{notRejudged}
-use Rattle.rules.proofs.Chain.{passes, refuses}
+use Rattle.facts.proofs.Chain.{passes, refuses}
 use Rattle.rejudge.proofs.Again.{carried-promise, again-older, again-newer, again-carried, again-fresh}
 use Rattle.rejudge.proofs.Allowed.{all-fresh, all-carried, carried-answers, fresh-starts}
 use Rattle.rejudge.proofs.judge_carried.Statement.{statement}

@@ -10,7 +10,7 @@ use Rattle.rules.specs.Operations.{answersFrom, fresh}
 use Rattle.rejudge.proofs.Column.{Column, column-none, column-next}
 use Rattle.rejudge.specs.Carried.{startOf, olderStarts}
 use Rattle.rejudge.proofs.Allowed.{all-fresh, answers-long, fresh-starts}
-use Rattle.rules.proofs.LentStarts.{answers-same}
+use Rattle.facts.proofs.LentStarts.{answers-same}
 use Rattle.rejudge.proofs.older_starts.Statement.{statement}
 use Rattle.rejudge.proofs.older_starts.Tie as tie
 

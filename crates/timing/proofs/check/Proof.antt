@@ -1,7 +1,7 @@
 -- 6 and 7 in their order. Assumes nothing.
 use borrow.Author.Needs.{needs}
 use Rattle.rules.specs.Refusals.{checkTiming}
-use Rattle.rules.proofs.Chain.{stops, goes-on}
+use Rattle.facts.proofs.Chain.{stops, goes-on}
 use Rattle.timing.proofs.check.Statement.{statement}
 use Rattle.timing.proofs.check.Tie as tie
 

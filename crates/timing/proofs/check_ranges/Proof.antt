@@ -3,7 +3,7 @@ use Prim.Native.Nat.{_-_}
 use mathlib.Core.Path.{sym, _∙_}
 use borrow.Author.Needs.{needs}
 use Rattle.rules.specs.Refusals.{figureFault}
-use Rattle.rules.proofs.First.{Left, left-all, left-hit, left-next, left-none}
+use Rattle.facts.proofs.First.{Left, left-all, left-hit, left-next, left-none}
 use Rattle.timing.proofs.Ranges.{fault-at}
 use Rattle.timing.specs.Ranges.{AreRanges}
 use Rattle.timing.proofs.check_ranges.Statement.{statement}

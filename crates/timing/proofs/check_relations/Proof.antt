@@ -4,7 +4,7 @@ use mathlib.Core.Path.{sym, _∙_}
 use borrow.Author.Needs.{needs}
 use native.Mathlib.Omega.{arith}
 use Rattle.rules.specs.Refusals.{relationFault}
-use Rattle.rules.proofs.First.{Left, left-all, left-hit, left-next, left-none}
+use Rattle.facts.proofs.First.{Left, left-all, left-hit, left-next, left-none}
 use Rattle.timing.proofs.check_relations.Statement.{statement}
 use Rattle.timing.proofs.check_relations.Tie as tie
 

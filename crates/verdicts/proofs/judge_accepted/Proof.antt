@@ -2,7 +2,7 @@
 use borrow.Author.Needs.{needs}
 use mathlib.Core.Path.{refl, _∙_}
 use Rattle.rules.specs.File.{decode}
-use Rattle.rules.proofs.Reading.{decoded-accepted}
+use Rattle.facts.proofs.Reading.{decoded-accepted}
 use Rattle.columns.proofs.Holding.{of-judgeable}
 use Rattle.columns.proofs.AllJudged.{judged-is}
 use Rattle.verdicts.proofs.Accepted.{file-sound}

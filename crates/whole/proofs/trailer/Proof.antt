@@ -5,7 +5,7 @@ use native.Mathlib.Omega.{arith}
 use borrow.Author.Needs.{needs}
 use lib.ListN.{length, take}
 use lib.Seq.{length-take-le}
-use Rattle.laws.specs.Idioms.{number, part}
+use Rattle.laws.specs.Idioms.{numberIn, part}
 use Rattle.rules.specs.File.{sumOf}
 use Rattle.whole.proofs.Checks.{wrong-count, wrong-sum, wrong-running, trailer-right}
 use Rattle.whole.proofs.trailer.Statement.{statement}
@@ -21,11 +21,11 @@ sums-requires : tie.Need-sums-requires
 sums-requires c κs = let s = c .before .before .before .before .args .file .now in omega (arith, length-take-le (length s - 12) s (omega arith))
 
 -- the first number was found right, then the second
-counted : (c : tie.Else1) → let s = c .before .before .before .args .file .now in number (part s (length s - 12) 4) ≡ length s - 12
+counted : (c : tie.Else1) → let s = c .before .before .before .args .file .now in numberIn (part s (length s - 12) 4) ≡ length s - 12
 counted c = sym (c .before .le32 .ensures) ∙ c .if1 .left
 
 summed : (c : tie.Else2) → let s = c .before .before .before .before .before .before .before .before .args .file .now in
-    number (part s (length s - 8) 4) ≡ sumOf (take (length s - 12) s)
+    numberIn (part s (length s - 8) 4) ≡ sumOf (take (length s - 12) s)
 summed c = let d = c .before .before in rw (d .le322 .ensures, d .before .sums .ensures) at (c .if2 .left)
 
 returns-2 : tie.Need-returns-2

@@ -9,7 +9,7 @@ use lib.ListN.{length}
 use Rattle.rules.specs.Chain.{isAccepted}
 use Rattle.rules.specs.Refusals.{checkTable}
 use Rattle.rules.specs.File.{body, encode}
-use Rattle.rules.proofs.Accepted.{sound}
+use Rattle.facts.proofs.Accepted.{sound}
 use Rattle.laws.proofs.Runs.{unmapped}
 use Rattle.whole.proofs.Places.{length-is}
 use Rattle.encode.proofs.Stores.{body-length}

@@ -6,12 +6,12 @@ use Prim.Native.Nat.{ℕ, _+_, _*_, _≤_}
 use native.Mathlib.Omega.{arith}
 use native.Mathlib.Nat.{le-refl, le-of-eq, le-antisymm, mul-le-mul}
 use Rattle.equation.specs.Equation.{Equation, Count, Steps}
 use Rattle.rules.specs.declared.Task.{Task}
 use Rattle.rules.specs.Tasks.{C, T, H, releases}
 use Rattle.rules.specs.Board.{Memory}
-use Rattle.rules.specs.Steady.{Steady, Slower, NoMore}
+use Rattle.facts.specs.Steady.{Steady, Slower, NoMore}
 use Rattle.rules.specs.Response.{preemption, request, job, delay, response}
-use Rattle.rules.proofs.Releases.{releases-rise, releases-count}
+use Rattle.facts.proofs.Releases.{releases-rise, releases-count}
 use Rattle.laws.specs.Idioms.{sumOver}
 use Rattle.laws.proofs.Paired.{Paired, paired-self, sum-paired}
 

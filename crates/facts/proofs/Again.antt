@@ -5,19 +5,19 @@ use mathlib.Core.List.{List, [], _∷_, _++_, map, List·Memᴰ, List·Memᴰ·h
 use Prim.Native.Nat.{ℕ, _≤_}
 use lib.ListN.{length-map}
 use Rattle.equation.proofs.Least.{right-unique}
 use Rattle.rules.specs.declared.Table.{Table}
 use Rattle.rules.specs.declared.Answer.{Answer}
 use Rattle.rules.specs.Response.{decider}
 use Rattle.rules.specs.Judgement.{withDelay, roundsOf, judge}
 use Rattle.rules.specs.Order.{worsens}
 use Rattle.rules.specs.Chain.{isAccepted}
 use Rattle.rules.specs.Refusals.{checkTable, checkJudged}
 use Rattle.rules.specs.Operations.{answersFrom, fresh, verdicts, olderBound, checkBoth, rejudging}
-use Rattle.rules.proofs.Chain.{both-accepted}
+use Rattle.facts.proofs.Chain.{both-accepted}
 use Rattle.laws.specs.Idioms.{upTo}
 use Rattle.laws.proofs.Members.{member-upTo}
-use Rattle.rules.proofs.Worsened.{worsened}
-use Rattle.rules.proofs.Points.{fresh-right, carries}
+use Rattle.facts.proofs.Worsened.{worsened}
+use Rattle.facts.proofs.Points.{fresh-right, carries}
 
 verdicts-append : (xs ys : List Answer) → verdicts (xs ++ ys) ≡ verdicts xs ++ verdicts ys
 verdicts-append [] ys = refl

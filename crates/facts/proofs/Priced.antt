@@ -10,14 +10,14 @@ use borrow.Author.Tests.{eqb-true}
 use Rattle.laws.specs.Idioms.{sumOver, upTo}
 use Rattle.laws.proofs.Linear.{sum-same, sum-times, sum-those, sum-swap, sum-only}
 use Rattle.laws.proofs.Paired.{Paired, paired-self, sum-paired}
 use Rattle.rules.specs.declared.Task.{Task}
 use Rattle.rules.specs.declared.Table.{Table}
 use Rattle.rules.specs.Tasks.{C, H, releases, tasksOf, isOn, tasksOn, elsewhere, arrivals}
-use Rattle.rules.specs.Board.{jobAt}
-use Rattle.rules.specs.Steady.{Steady, NoMore}
-use Rattle.rules.specs.Sound.{Sound}
-use Rattle.rules.proofs.SoundTasks.{sound-all}
-use Rattle.rules.proofs.Releases.{releases-rise}
+use Rattle.facts.specs.Prices.{jobAt}
+use Rattle.facts.specs.Steady.{Steady, NoMore}
+use Rattle.facts.specs.Sound.{Sound}
+use Rattle.facts.proofs.SoundTasks.{sound-all}
+use Rattle.facts.proofs.Releases.{releases-rise}
 
 -- ---- task by task
 

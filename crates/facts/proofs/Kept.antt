@@ -4,14 +4,14 @@ use Prim.Native.Nat.{ℕ, suc, _-_, _≤_}
 use native.Mathlib.Omega.{arith}
 use native.Mathlib.Nat.{le-trans}
 use lib.ListN.{take}
 use Rattle.rules.specs.declared.Task.{Task}
 use Rattle.rules.specs.declared.Table.{Table}
 use Rattle.rules.specs.Tasks.{noTask, taskOf, coreOf, isOn, higher, elsewhere}
-use Rattle.rules.specs.Steady.{NoMore}
-use Rattle.rules.specs.Sound.{SoundTask, Sound}
-use Rattle.rules.specs.Worsened.{Raised, Worsened}
-use Rattle.rules.proofs.SoundTasks.{task-at, tasks-there}
-use Rattle.rules.proofs.Releases.{releases-shorter}
+use Rattle.facts.specs.Steady.{NoMore}
+use Rattle.facts.specs.Sound.{SoundTask, Sound}
+use Rattle.facts.specs.Worsened.{Raised, Worsened}
+use Rattle.facts.proofs.SoundTasks.{task-at, tasks-there}
+use Rattle.facts.proofs.Releases.{releases-shorter}
 use Rattle.laws.proofs.Paired.{Paired, paired-take, paired-those}
 
 -- an older and a newer task of one number

@@ -4,14 +4,14 @@ use mathlib.Core.List.{List}
 use Prim.Native.Nat.{ℕ, _≤_}
 use native.Mathlib.Omega.{arith}
 use lib.ListN.{take}
 use Rattle.rules.specs.declared.Table.{Table}
 use Rattle.rules.specs.Judgement.{judge}
 use Rattle.rules.specs.Refusals.{lateStart, highStart, checkAll}
 use Rattle.rules.specs.Operations.{answersFrom, judgeAll}
 use Rattle.laws.specs.Idioms.{entry, filled, upTo}
 use Rattle.laws.proofs.Members.{member-upTo, map-same}
 use Rattle.laws.proofs.Filled.{filled-entry}
-use Rattle.rules.proofs.First.{first-same}
+use Rattle.facts.proofs.First.{first-same}
 
 module _ (t : Table) (start other : ℕ → ℕ) (same : (k : ℕ) → 1 ≤ k → k ≤ t .tasks → start k ≡ other k) where
   check-same : checkAll t start ≡ checkAll t other

@@ -6,27 +6,31 @@ use mathlib.Core.List.{List, [], _∷_, map, List·Memᴰ, List·Memᴰ·append-
 use Prim.Native.Nat.{ℕ, _-_, _≤_}
 use native.Mathlib.Omega.{arith}
 use Rattle.equation.specs.Equation.{Equation, Steps, renewals, most-rounds}
 use Rattle.rules.specs.declared.Task.{Task}
 use Rattle.rules.specs.declared.Table.{Table}
 use Rattle.rules.specs.Tasks.{T, releases, latest, taskOf, coreOf, higher, elsewhere}
 use Rattle.rules.specs.Board.{memoryOf}
-use Rattle.rules.specs.Steady.{Slower}
+use Rattle.facts.specs.Steady.{Slower}
 use Rattle.rules.specs.Response.{F}
 use Rattle.rules.specs.Judgement.{lowest}
-use Rattle.rules.specs.Others.{others, countsOf, roundLimit}
+use Rattle.rules.specs.Others.{others, roundLimit}
 use Rattle.rules.specs.Order.{worsens}
 use Rattle.rules.specs.Chain.{isAccepted}
 use Rattle.rules.specs.Refusals.{checkTable}
-use Rattle.rules.specs.Sound.{SoundTask}
-use Rattle.rules.specs.Worsened.{Worsened}
-use Rattle.rules.proofs.Accepted.{sound}
-use Rattle.rules.proofs.SoundTasks.{sound-higher, sound-elsewhere}
+use Rattle.facts.specs.Sound.{SoundTask}
+use Rattle.facts.specs.Worsened.{Worsened}
+use Rattle.facts.proofs.Accepted.{sound}
+use Rattle.facts.proofs.SoundTasks.{sound-higher, sound-elsewhere}
 use Rattle.laws.specs.Idioms.{sumOver}
 use Rattle.laws.proofs.Paired.{paired-map}
-use Rattle.rules.proofs.Kept.{Kept, kept-no-more, kept, kept-higher}
-use Rattle.rules.proofs.Memory.{response-equation, response-steps, response-worse}
-use Rattle.rules.proofs.Dram.{memory-steady, memory-slower}
-use Rattle.rules.proofs.Worsened.{worsened}
+use Rattle.facts.proofs.Kept.{Kept, kept-no-more, kept, kept-higher}
+use Rattle.facts.proofs.Memory.{response-equation, response-steps, response-worse}
+use Rattle.facts.proofs.Dram.{memory-steady, memory-slower}
+use Rattle.facts.proofs.Worsened.{worsened}
+
+-- the counts through which F looks at the time
+abbrev pub countsOf : Table → ℕ → List (ℕ → ℕ)
+countsOf t k = map releases (others t k)
 
 module _ (t : Table) (accepted : isAccepted (checkTable t) ≡ true) (k : ℕ) (low : 1 ≤ k) (high : k ≤ t .tasks) where
   own-sound : SoundTask (t .cores) (taskOf t k)

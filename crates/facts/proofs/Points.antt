@@ -3,26 +3,26 @@ use mathlib.Core.Path.{_≡_, refl}
 use mathlib.Core.Bool.{true}
 use Prim.Native.Nat.{ℕ, _≤_}
 use native.Mathlib.Omega.{arith}
-use Rattle.equation.specs.Verdict as outcome
+use Rattle.equation.specs.Outcome as outcome
 use Rattle.equation.specs.Start.{FromStart}
 use Rattle.equation.specs.Carry.{carried, Carries}
 use Rattle.equation.proofs.Points.{point-two, from-start, point-three}
 use Rattle.rules.specs.declared.Table.{Table}
 use Rattle.rules.specs.declared.Delay.{Delay}
 use Rattle.rules.specs.Tasks.{latest, taskOf}
 use Rattle.rules.specs.Response.{F, decider}
 use Rattle.rules.specs.Judgement.{withDelay, lowest, roundsOf, judge, boundOf}
-use Rattle.rules.specs.Others.{countsOf, roundLimit}
+use Rattle.rules.specs.Others.{roundLimit}
 use Rattle.rules.specs.Order.{worsens}
 use Rattle.rules.specs.Chain.{isAccepted}
 use Rattle.rules.specs.Refusals.{checkTable, checkJudged}
 use Rattle.rules.specs.Operations.{olderBound}
-use Rattle.rules.proofs.Starts.{Judgeable, judged-accepted}
-use Rattle.rules.proofs.Instance.{equation-of, steps-of, limit-of, not-lower, latest-stays, number-stays}
+use Rattle.facts.proofs.Starts.{Judgeable, judged-accepted}
+use Rattle.facts.proofs.Instance.{countsOf, equation-of, steps-of, limit-of, not-lower, latest-stays, number-stays}
 
 module _ (t : Table) (accepted : isAccepted (checkTable t) ≡ true) (k : ℕ) (low : 1 ≤ k) (high : k ≤ t .tasks) where
   -- point 2: the verdict from a fresh start is the least solution from 1 to D, or that there is none
-  pub fresh-right : outcome.Right (F t k) 1 (latest (taskOf t k)) (roundsOf t k 0 .verdict)
+  pub fresh-right : outcome.Correct (F t k) 1 (latest (taskOf t k)) (roundsOf t k 0 .verdict)
   unfolding roundsOf
   fresh-right = point-two (equation-of t accepted k low high) .0
 
@@ -40,9 +40,9 @@ module _ (t : Table) (k start : ℕ) (j : Judgeable t k start) where
   start-limit = omega (arith, start-right .limit, limit-of t k)
 
 -- the start that the older bound gives
-bound-carried : (by : ℕ → Delay) (v : outcome.Verdict) → boundOf (withDelay by v) ≡ carried v
-bound-carried by (outcome.holds R) = refl
-bound-carried by outcome.misses = refl
+bound-carried : (by : ℕ → Delay) (v : outcome.Outcome) → boundOf (withDelay by v) ≡ carried v
+bound-carried by (outcome.found R) = refl
+bound-carried by outcome.nothing = refl
 
 older-bound : (t : Table) (k : ℕ) → olderBound t k ≡ carried (roundsOf t k 0 .verdict)
 unfolding olderBound judge

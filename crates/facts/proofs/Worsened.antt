@@ -2,10 +2,10 @@
 use mathlib.Core.Path.{_≡_}
 use mathlib.Core.Bool.{true}
 use borrow.Author.Tests.{leb-true, eqb-true}
 use Rattle.rules.specs.declared.Task.{Task}
 use Rattle.rules.specs.declared.Table.{Table}
 use Rattle.rules.specs.Order.{sameBoard, worseTask, worsens}
-use Rattle.rules.specs.Worsened.{Alike, Raised, Worsened}
+use Rattle.facts.specs.Worsened.{Alike, Raised, Worsened}
 use Rattle.laws.proofs.Members.{upTo-has}
 use Rattle.laws.proofs.Tests.{and-both, every-member}
 

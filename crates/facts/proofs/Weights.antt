@@ -6,11 +6,11 @@ use Prim.Native.Nat.{ℕ, _+_, _*_}
 use native.Mathlib.Omega.{arith}
 use lib.Dec.{eqb}
 use borrow.Author.Tests.{eq-eqb}
 use Rattle.rules.specs.declared.Table.{Table}
 use Rattle.rules.specs.Tasks.{arrivals}
 use Rattle.rules.specs.Cores.{bit, share, setOf, isNear, isFar, near, far}
 use Rattle.rules.specs.Dram.{crossing, conflict, jinter, JD}
-use Rattle.rules.specs.Board.{ifFar, ifNear, weight, jobAt}
+use Rattle.facts.specs.Prices.{ifFar, ifNear, weight, jobAt}
 use Rattle.laws.specs.Idioms.{sumOver, some, upTo, below}
 use Rattle.laws.proofs.Linear.{sum-same, sum-plus, sum-times, sum-zero, sum-those-times, sum-swap}
 use Rattle.laws.proofs.Members.{member-those}

@@ -4,17 +4,18 @@ use mathlib.Core.Path.{_≡_, ap, fun-ext, _∙_}
 use Prim.Native.Nat.{ℕ, _≤_}
 use native.Mathlib.Nat.{le-of-eq}
 use Rattle.laws.proofs.Paired.{paired-map}
 use Rattle.rules.specs.declared.Task.{Task}
 use Rattle.rules.specs.declared.Table.{Table}
 use Rattle.rules.specs.Tasks.{elsewhere}
-use Rattle.rules.specs.Board.{Memory, memoryOf, Prices, pricesOf, jobAt}
-use Rattle.rules.specs.Steady.{Steady, Slower}
-use Rattle.rules.specs.Sound.{Sound}
-use Rattle.rules.specs.Worsened.{Alike, Worsened}
-use Rattle.rules.proofs.Priced.{job-no-more, priced-steady}
-use Rattle.rules.proofs.Weights.{JD-by-core, weight-self}
-use Rattle.rules.proofs.Kept.{Kept, kept-no-more, kept-elsewhere}
-use Rattle.rules.proofs.Alike.{same-RD, same-weight}
+use Rattle.rules.specs.Board.{Memory, memoryOf}
+use Rattle.facts.specs.Prices.{Prices, pricesOf, jobAt}
+use Rattle.facts.specs.Steady.{Steady, Slower}
+use Rattle.facts.specs.Sound.{Sound}
+use Rattle.facts.specs.Worsened.{Alike, Worsened}
+use Rattle.facts.proofs.Priced.{job-no-more, priced-steady}
+use Rattle.facts.proofs.Weights.{JD-by-core, weight-self}
+use Rattle.facts.proofs.Kept.{Kept, kept-no-more, kept-elsewhere}
+use Rattle.facts.proofs.Alike.{same-RD, same-weight}
 
 -- ---- DRAM's own
 

@@ -6,10 +6,10 @@ use Prim.Native.Nat.{ℕ, suc, _-_, _≤_}
 use native.Mathlib.Omega.{arith}
 use native.Mathlib.Decide.{decLe}
 use lib.ListN.{length, take, getD, List·getD-eq-default}
 use Rattle.rules.specs.declared.Task.{Task}
 use Rattle.rules.specs.declared.Table.{Table}
 use Rattle.rules.specs.Tasks.{noTask, tasksOf, taskOf, coreOf, isOn, higher, elsewhere}
-use Rattle.rules.specs.Sound.{Sound, SoundTask}
+use Rattle.facts.specs.Sound.{Sound, SoundTask}
 use Rattle.laws.proofs.Members.{member-those, member-take}
 
 -- places of the list are counted from 0, tasks from 1

@@ -3,16 +3,16 @@ use mathlib.Core.Path.{_≡_}
 use mathlib.Core.Bool.{true, false}
 use Prim.Native.Nat.{ℕ, _≤_}
 use borrow.Author.Tests.{ltb-false, le-ltb, le-leb, not-false}
 use Rattle.rules.specs.declared.Table.{Table}
 use Rattle.rules.specs.Tasks.{latest, taskOf}
 use Rattle.rules.specs.Judgement.{lowest}
 use Rattle.rules.specs.Chain.{isAccepted, _orElse_, given}
 use Rattle.rules.specs.Refusals.{checkTable, askedFault, lateStart, highStart, checkJudged, checkStart, checkOne}
-use Rattle.rules.specs.Starts.{AllowedStart}
-use Rattle.rules.proofs.Chain.{both-accepted, no-fault}
+use Rattle.facts.specs.Starts.{AllowedStart}
+use Rattle.facts.proofs.Chain.{both-accepted, no-fault}
 use Rattle.laws.specs.Idioms.{Within}
 use Rattle.laws.proofs.Tests.{inside}
-use Rattle.rules.proofs.Instance.{lowest-fits}
+use Rattle.facts.proofs.Instance.{lowest-fits}
 
 module _ (t : Table) (k start : ℕ) where
   passes-allowed : lateStart t k start ≡ false → highStart t k start ≡ false → AllowedStart t k start

@@ -5,16 +5,16 @@ use Prim.Native.Nat.{ℕ, _≤_, _<_, _^_}
 use native.Mathlib.Omega.{arith}
 use lib.Dec.{leb, ltb, eqb}
 use borrow.Author.Tests.{leb-true, ltb-true, ltb-false, eqb-true, eqb-false, not-false}
 use Rattle.rules.specs.declared.Table.{Table}
 use Rattle.rules.specs.declared.Refusal.{Refusal}
 use Rattle.rules.specs.Timing.{Row, tWR, tWTR, ranges}
 use Rattle.rules.specs.Tasks.{C, T, D, H, taskOf}
 use Rattle.rules.specs.Cores.{setOf}
 use Rattle.rules.specs.Chain.{isAccepted, _orElse_, given, first}
 use Rattle.rules.specs.Refusals.{fourthAllowed, countsFault, figureFault, relationsHold, relationFault, checkTiming, setFault, coreFault, timeFault, requestFault, boardRefusal, tasksRefusal, checkBoard, checkTasks, checkTable}
-use Rattle.rules.specs.Sound.{SoundRow, SoundTask, Sound}
-use Rattle.rules.proofs.First.{none-first}
-use Rattle.rules.proofs.Chain.{both-accepted, no-fault}
+use Rattle.facts.specs.Sound.{SoundRow, SoundTask, Sound}
+use Rattle.facts.proofs.First.{none-first}
+use Rattle.facts.proofs.Chain.{both-accepted, no-fault}
 use Rattle.laws.specs.Idioms.{entry, within, Within}
 use Rattle.laws.proofs.Tests.{and-both, or-neither, inside}
 

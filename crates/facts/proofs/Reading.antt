@@ -3,11 +3,11 @@ use mathlib.Core.Path.{_≡_}
 use mathlib.Core.Bool.{true}
 use mathlib.Core.List.{List}
 use Prim.Native.Nat.{ℕ}
 use Rattle.rules.specs.Chain.{isAccepted}
 use Rattle.rules.specs.Refusals.{checkTable}
 use Rattle.rules.specs.File.{checkWhole, decode}
 use Rattle.rules.specs.Operations.{checkFile, reading}
-use Rattle.rules.proofs.Chain.{both-accepted}
+use Rattle.facts.proofs.Chain.{both-accepted}
 
 module _ (s : List ℕ) (accepted : isAccepted (checkFile s) ≡ true) where
   links : (isAccepted (checkWhole s) ≡ true) × (isAccepted (checkTable (decode s)) ≡ true)

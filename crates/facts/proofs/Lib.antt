@@ -1,0 +1,37 @@
+-- The laws that other proofs cite, and what makes the theory of `equation` hold of an accepted table.
+--     Reading     what an accepted file is known to be
+--     First       the first place at fault
+--     Chain       a chain of refusals that gives none
+--     Accepted    an accepted table is sound
+--     SoundTasks  and so are its tasks
+--     Weights     DRAM's job delay by core
+--     Priced      the job delay at any prices
+--     Releases    the releases of a task are a count
+--     Memory      the response equation over any steady memory
+--     Worsened    the test of a table worsened, taken apart
+--     Alike       boards alike in their used places
+--     Kept        the tasks of such tables, number by number
+--     Dram        a board's memory by its prices, DRAM's
+--     Instance    the equation of an accepted table
+--     Starts      the starts that are not refused
+--     LentStarts  a judgement looks only at the starts of its tasks
+--     Points      points 2 and 3 for tables
+--     Again       a newer table has its fresh verdicts, carried or not
+pub mod First
+pub mod Chain
+pub mod Accepted
+pub mod Reading
+pub mod SoundTasks
+pub mod Weights
+pub mod Releases
+pub mod Priced
+pub mod Memory
+pub mod Worsened
+pub mod Alike
+pub mod Kept
+pub mod Dram
+pub mod Instance
+pub mod Starts
+pub mod LentStarts
+pub mod Points
+pub mod Again

@@ -1,0 +1,12 @@
+-- What follows from the rules, in the words in which contracts of inner functions and proofs use it. Nothing here is a rule of the document,
+-- and none of it has to be believed: each is shown of the rules in proofs/.
+--     Sound     the bounds of an accepted table
+--     Prices    what a board's cores cost each other, as prices
+--     Steady    what is asked of any memory
+--     Starts    a start that is not refused
+--     Worsened  what is known of a table worsened
+pub mod Sound
+pub mod Prices
+pub mod Steady
+pub mod Starts
+pub mod Worsened
