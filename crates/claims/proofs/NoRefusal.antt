@@ -1,4 +1,4 @@
--- Where nothing is refused of a table, the refusal has number 0 and place 0. Assumes nothing.
+-- Where nothing is refused of a table, of a start or of two tables, the refusal has number 0 and place 0. Assumes nothing.
 use mathlib.Core.Path.{_≡_, _∙_}
 use mathlib.Core.Bool.{Bool, true}
 use Prim.Native.Nat.{ℕ, suc}
@@ -7,7 +7,8 @@ use Rattle.rules.specs.declared.Table.{Table}
 use Rattle.rules.specs.Cores.{setOf}
 use Rattle.rules.specs.Tasks.{taskOf}
 use Rattle.rules.specs.Chain.{accepted, isAccepted, _orElse_, given, first}
-use Rattle.rules.specs.Refusals.{countsFault, figureFault, relationFault, checkTiming, setFault, coreFault, timeFault, requestFault, boardRefusal, tasksRefusal, checkBoard, checkTasks, checkTable}
+use Rattle.rules.specs.Refusals.{countsFault, figureFault, relationFault, checkTiming, setFault, coreFault, timeFault, requestFault, boardRefusal, tasksRefusal, checkBoard, checkTasks, checkTable, askedFault, lateStart, highStart, checkJudged, checkStart, checkOne}
+use Rattle.rules.specs.Operations.{checkBoth}
 use Rattle.facts.proofs.Chain.{both-accepted, second-decides, no-fault}
 use Rattle.facts.proofs.First.{none-first, first-none}
 
@@ -45,3 +46,18 @@ module _ (t : Table) where
   pub table-plain : Plain (checkTable t)
   unfolding checkTable
   table-plain = both-plain (checkBoard t) (checkTasks t) board-plain tasks-plain
+
+  judged-plain : Plain (checkJudged t)
+  unfolding checkJudged
+  judged-plain = table-plain
+
+  pub one-plain : (k start : ℕ) → Plain (checkOne t k start)
+  unfolding checkOne checkStart
+  one-plain k start =
+      both-plain _ _
+      (both-plain _ _ (both-plain _ _ judged-plain (given-plain 11 0 (askedFault t k))) (given-plain 12 k (lateStart t k start)))
+      (given-plain 13 k (highStart t k start))
+
+pub both-tables-plain : (older newer : Table) → Plain (checkBoth older newer)
+unfolding checkBoth
+both-tables-plain older newer = both-plain _ _ (judged-plain older) (judged-plain newer)

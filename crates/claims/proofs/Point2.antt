@@ -1,6 +1,8 @@
--- Point 2 holds: what the theory says of the rounds' verdict, said of the answer that carries the deciding delay. Assumes nothing.
+-- Point 2 holds: what the theory says of the rounds' outcome, said of the answers of the operations; and every start errs to the safe side.
+-- Assumes nothing.
 use mathlib.Core.Path.{_≡_, refl, ap}
 use mathlib.Core.Bool.{Bool, true, false, cond}
+use mathlib.Core.List.{List}
 use mathlib.Core.Logic.{_↔_}
 use Prim.Native.Nat.{ℕ, _≤_}
 use native.Mathlib.Omega.{arith}
@@ -8,21 +10,29 @@ use native.Mathlib.Nat.{le-antisymm}
 use lib.Dec.{leb}
 use borrow.Author.Tests.{leb-true, le-leb}
 use Rattle.equation.specs.Outcome as outcome
+use Rattle.equation.specs.Outcome.{Solution, Smallest}
+use Rattle.equation.proofs.Solve.{fresh-allowed}
 use Rattle.rules.specs.declared.Table.{Table}
 use Rattle.rules.specs.declared.Delay.{Delay}
 use Rattle.rules.specs.declared.Delay.the-variants.{Request, Job}
 use Rattle.rules.specs.declared.Verdict.{Verdict}
 use Rattle.rules.specs.declared.Verdict.the-variants.{Holds, Misses}
+use Rattle.laws.specs.Idioms.{entry}
 use Rattle.rules.specs.Units.{ps}
-use Rattle.rules.specs.Tasks.{D, latest, taskOf, coreOf, higher}
+use Rattle.rules.specs.Tasks.{latest, taskOf, coreOf, higher}
 use Rattle.rules.specs.Board.{memoryOf}
 use Rattle.rules.specs.Response.{F, request, job, decided, decider}
 use Rattle.rules.specs.Judgement.{startOf, withDelay, roundsOf, judge, boundOf}
-use Rattle.rules.specs.Chain.{isAccepted}
-use Rattle.rules.specs.Refusals.{checkOne}
-use Rattle.facts.proofs.Starts.{one-judgeable}
+use Rattle.rules.specs.Chain.{accepted, isAccepted}
+use Rattle.rules.specs.Refusals.{checkOne, checkAll}
+use Rattle.rules.specs.Operations.{judgeOne, judgeAll, freshStarts}
+use Rattle.facts.proofs.Starts.{Judgeable, judged-accepted, accepted-judged, one-judgeable, judgeable-one}
+use Rattle.facts.proofs.Instance.{equation-of}
+use Rattle.facts.proofs.AllStarts.{none-refused, all-judgeable, all-answered, fresh-starts, all-fresh}
 use Rattle.facts.proofs.Points.{fresh-right, start-right}
-use Rattle.claims.specs.Point2.{AcceptedTask, Smallest, Decided, Right, PointTwo}
+use Rattle.claims.specs.Files.{AcceptedTable}
+use Rattle.claims.specs.Point2.{AcceptedTask, answerTo, Decided, Right, PointTwo, HoldsFresh, SafeSide}
+use Rattle.claims.proofs.NoRefusal.{one-plain}
 
 -- ---- a verdict with its delay, by what is right of the verdict
 
@@ -32,11 +42,8 @@ module _ {f : ℕ → ℕ} {from deadline : ℕ} (by : ℕ → Delay) where
 
   holds-exactly : {v : outcome.Outcome} → outcome.Correct f from deadline v
       → (R : ℕ) → ((d : Delay) × (withDelay by v ≡ Holds (ps R) d)) ↔ Smallest f from deadline R
-  holds-exactly (outcome.least {R = S} solution least) R = (to, back)
+  holds-exactly (outcome.least {R = S} found) R = (to, back)
     where
-      found : Smallest f from deadline S
-      found = record { solution = solution; smallest = least }
-
       to : (d : Delay) × (Holds (ps S) (by S) ≡ Holds (ps R) d) → Smallest f from deadline R
       to (d, e) = let same : S ≡ R = ap boundOf e in rw (← same) found
 
@@ -48,9 +55,9 @@ module _ {f : ℕ → ℕ} {from deadline : ℕ} (by : ℕ → Delay) where
       to (d, e) = let z : _≡_ {A = ℕ} 0 1 = cc in absurd (omega arith)
 
   misses-exactly : {v : outcome.Outcome} → outcome.Correct f from deadline v
-      → (withDelay by v ≡ Misses) ↔ ((R : ℕ) → ¬ outcome.Solution f from deadline R)
-  misses-exactly (outcome.least {R = S} solution least) =
-      (λ e. let z : _≡_ {A = ℕ} 0 1 = cc in absurd (omega arith), λ no-solution. absurd (no-solution S solution))
+      → (withDelay by v ≡ Misses) ↔ ((R : ℕ) → ¬ Solution f from deadline R)
+  misses-exactly (outcome.least {R = S} found) =
+      (λ e. let z : _≡_ {A = ℕ} 0 1 = cc in absurd (omega arith), λ no-solution. absurd (no-solution S (found .solution)))
   misses-exactly (outcome.none no-solution) = (λ e. no-solution, λ no. refl)
 
 delay-of : (by : ℕ → Delay) (v : outcome.Outcome) (R : ℕ) (d : Delay) → withDelay by v ≡ Holds (ps R) d → d ≡ by R
@@ -73,23 +80,100 @@ decided-at : (t : Table) (k R : ℕ) → Decided t k R (decider t k R)
 unfolding decider decided
 decided-at t k R = record { is-request = picks-request (request (memoryOf t (coreOf t k)) (taskOf t k) (higher t k) R) (job (memoryOf t (coreOf t k)) R) }
 
--- ---- the judgement
+-- ---- the judgement of one task
 
-pub right : (t : Table) (k given from : ℕ) → outcome.Correct (F t k) from (D (taskOf t k)) (roundsOf t k given .verdict) → Right t k given from
+pub judged-right : (t : Table) (k given from : ℕ) → outcome.Correct (F t k) from (latest (taskOf t k)) (roundsOf t k given .verdict)
+    → Right t k from (judge t k given .verdict)
 unfolding judge
-right t k given from r = record {
+judged-right t k given from r = record {
   holds = holds-exactly (decider t k) r;
   misses = misses-exactly (decider t k) r;
   decided = λ R by e. rw (delay-of (decider t k) (roundsOf t k given .verdict) R by e) (decided-at t k R);
 }
 
-fresh : (t : Table) (k : ℕ) → AcceptedTask t k → Right t k 0 1
-unfolding latest
-fresh t k task = right t k 0 1 (fresh-right t (task .table) k (task .first) (task .last))
+pub fresh-judgeable : (t : Table) (k : ℕ) → AcceptedTask t k → Judgeable t k 0
+fresh-judgeable t k task = record {
+  judged = accepted-judged t (task .table);
+  number = record { low = task .first; high = task .last };
+  allowed = fresh-allowed (equation-of t (task .table) k (task .first) (task .last));
+}
 
-from-start : (t : Table) (k start : ℕ) → isAccepted (checkOne t k start) ≡ true → Right t k start (startOf t k start)
-unfolding latest roundsOf
-from-start t k start passed = right t k start (startOf t k start) (start-right t k start (one-judgeable t k start passed) .right)
+module _ (t : Table) (k start : ℕ) where
+  pub one-passed : Judgeable t k start → judgeOne t k start .refusal ≡ accepted
+  unfolding judgeOne
+  one-passed j = one-plain t k start (judgeable-one t k start j)
+
+  pub one-answered : Judgeable t k start → judgeOne t k start .answer ≡ judge t k start
+  unfolding judgeOne
+  one-answered j = rw (judgeable-one t k start j)
+
+  pub one-open : isAccepted (judgeOne t k start .refusal) ≡ true → Judgeable t k start
+  unfolding judgeOne
+  one-open passed = one-judgeable t k start passed
+
+  pub right-from : Judgeable t k start → Right t k (startOf t k start) (judge t k start .verdict)
+  unfolding roundsOf
+  right-from j = judged-right t k start (startOf t k start) (start-right t k start j .right)
+
+module _ (t : Table) (k : ℕ) (task : AcceptedTask t k) where
+  one-right : Right t k 1 (judgeOne t k 0 .answer .verdict)
+  one-right = rw (one-answered t k 0 (fresh-judgeable t k task)) (judged-right t k 0 1 (fresh-right t (task .table) k (task .first) (task .last)))
+
+-- ---- and of all
+
+all-passed : (t : Table) → AcceptedTable t → judgeAll t freshStarts .refusal ≡ accepted
+unfolding judgeAll
+all-passed t table = none-refused t table freshStarts (all-fresh t table)
+
+module _ (t : Table) (starts : List ℕ) (passed : isAccepted (judgeAll t starts .refusal) ≡ true) (k : ℕ) (low : 1 ≤ k) (high : k ≤ t .tasks) where
+  all-open : isAccepted (checkAll t (entry 0 starts)) ≡ true
+  unfolding judgeAll
+  all-open = passed
+
+  pub answered : answerTo k (judgeAll t starts .answers) ≡ judge t k (entry 0 starts k)
+  answered = all-answered t starts all-open k low high
+
+  pub judgeable : Judgeable t k (entry 0 starts k)
+  judgeable = all-judgeable t starts all-open k low high
+
+-- the fresh answers are those of each task alone
+pub fresh-answer : (t : Table) (k : ℕ) → AcceptedTask t k → answerTo k (judgeAll t freshStarts .answers) ≡ judgeOne t k 0 .answer
+fresh-answer t k task =
+    let passed : isAccepted (judgeAll t freshStarts .refusal) ≡ true = rw (all-passed t (task .table)) in
+    rw (answered t freshStarts passed k (task .first) (task .last), fresh-starts k, one-answered t k 0 (fresh-judgeable t k task))
 
 pub point-two : PointTwo
-point-two = record { fresh = fresh; from-start = from-start }
+point-two = record {
+  one-fresh = λ t k task. one-passed t k 0 (fresh-judgeable t k task);
+  all-fresh = all-passed;
+  one = one-right;
+  all = λ t k task. rw (fresh-answer t k task) (one-right t k task);
+  one-from = λ t k start passed. let j = one-open t k start passed in rw (one-answered t k start j) (right-from t k start j);
+  all-from = λ t starts passed k low high. rw (answered t starts passed k low high) (right-from t k (entry 0 starts k) (judgeable t starts passed k low high));
+}
+
+-- ---- the safe side
+
+module _ (t : Table) (k start : ℕ) (j : Judgeable t k start) where
+  task-of : AcceptedTask t k
+  task-of = record { table = judged-accepted t (j .judged); first = j .number .low; last = j .number .high }
+
+  holds-fresh : (R : ℕ) → Solution (F t k) 1 (latest (taskOf t k)) R → (v : Verdict) → judgeOne t k 0 .answer .verdict ≡ v → HoldsFresh t k R
+  holds-fresh R solution (Holds bound by) e =
+      let smallest = one-right t k task-of .holds (bound .0) .0 (by, e) in
+      record { bound = bound .0; by = by; fresh = e; no-later = smallest .smallest R solution }
+  holds-fresh R solution Misses e = absurd (one-right t k task-of .misses .0 e R solution)
+
+  safe : (R : ℕ) (by : Delay) → judge t k start .verdict ≡ Holds (ps R) by → HoldsFresh t k R
+  safe R by e =
+      let found = right-from t k start j .holds R .0 (by, e) .solution in
+      let task = task-of in
+      let low = equation-of t (task .table) k (task .first) (task .last) .some in
+      holds-fresh R (record { from = omega (arith, found .from); upto = found .upto; solves = found .solves }) (judgeOne t k 0 .answer .verdict) refl
+
+pub safe-side : SafeSide
+safe-side = record {
+  one = λ t k start passed R by e. let j = one-open t k start passed in safe t k start j R by (rw (one-answered t k start j) at e);
+  all = λ t starts passed k low high R by e.
+      safe t k (entry 0 starts k) (judgeable t starts passed k low high) R by (rw (answered t starts passed k low high) at e);
+}

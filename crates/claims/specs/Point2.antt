@@ -1,21 +1,25 @@
--- Point 2 of the mission, for the tasks of an accepted table: what a verdict says, fresh and from a given start. (What point 2 says of
--- delay figures is the figures' list of the crate `rules`; what it says of files is in `Files`.) Assumes nothing.
+-- Point 2 of the mission, of the operations that judge one task and all: what a verdict says, fresh and from a given start. (What point 2 says
+-- of delay figures is the figures' list of the crate `rules`; what it says of files is in `Files`.) Assumes nothing.
 use Prim.Native.Nat.{ℕ, _≤_}
 use mathlib.Core.Path.{_≡_}
 use mathlib.Core.Bool.{true}
+use mathlib.Core.List.{List}
 use mathlib.Core.Logic.{_↔_}
-use Rattle.equation.specs.Outcome.{Solution}
+use Rattle.equation.specs.Outcome.{Solution, Smallest}
 use Rattle.rules.specs.declared.Table.{Table}
+use Rattle.rules.specs.declared.Answer.{Answer}
+use Rattle.rules.specs.declared.Verdict.{Verdict}
 use Rattle.rules.specs.declared.Delay.{Delay}
 use Rattle.rules.specs.declared.Delay.the-variants.{Request}
 use Rattle.rules.specs.declared.Verdict.the-variants.{Holds, Misses}
+use Rattle.laws.specs.Idioms.{entry}
 use Rattle.rules.specs.Units.{ps}
-use Rattle.rules.specs.Tasks.{D, taskOf, coreOf, higher}
+use Rattle.rules.specs.Tasks.{latest, taskOf, coreOf, higher}
 use Rattle.rules.specs.Board.{memoryOf}
 use Rattle.rules.specs.Response.{F, request, job}
-use Rattle.rules.specs.Judgement.{startOf, judge}
-use Rattle.rules.specs.Chain.{isAccepted}
-use Rattle.rules.specs.Refusals.{checkOne}
+use Rattle.rules.specs.Judgement.{misses, startOf}
+use Rattle.rules.specs.Chain.{accepted, isAccepted}
+use Rattle.rules.specs.Operations.{judgeOne, judgeAll, freshStarts}
 use Rattle.claims.specs.Files.{AcceptedTable}
 
 -- a task of an accepted table
@@ -24,26 +28,48 @@ pub record AcceptedTask (t : Table) (k : ℕ) : Type 0 where
   pub first : 1 ≤ k
   pub last : k ≤ t .tasks
 
--- "the smallest whole time from .. to its deadline that satisfies the response equation" (`Solution f a d r`: a ≤ r ≤ d and r = f r)
-pub record Smallest (f : ℕ → ℕ) (from deadline R : ℕ) : Type 0 where
-  pub solution : Solution f from deadline R
-  pub smallest : (r : ℕ) → Solution f from deadline r → R ≤ r
+-- the answer to task number k among the answers to all
+abbrev pub answerTo : ℕ → List Answer → Answer
+answerTo k answers = entry (misses 0) answers k
 
 -- which delay decided at R: "Equal delays count as request."
 pub record Decided (t : Table) (k R : ℕ) (by : Delay) : Type 0 where
   pub is-request : (by ≡ Request)
       ↔ (request (memoryOf t (coreOf t k)) (taskOf t k) (higher t k) R ≤ job (memoryOf t (coreOf t k)) R)
 
--- the verdict on task k from a given start, where solutions are looked for from a time on
-pub record Right (t : Table) (k given from : ℕ) : Type 0 where
+-- a verdict on task k is right, where solutions are looked for from a time on up to the latest allowed response, its deadline
+-- (`Smallest f a d r`: r is the smallest solution of r = f r from a to d)
+pub record Right (t : Table) (k from : ℕ) (v : Verdict) : Type 0 where
   -- it holds with the bound R exactly if R is the smallest solution
-  pub holds : (R : ℕ) → ((by : Delay) × (judge t k given .verdict ≡ Holds (ps R) by)) ↔ Smallest (F t k) from (D (taskOf t k)) R
+  pub holds : (R : ℕ) → ((by : Delay) × (v ≡ Holds (ps R) by)) ↔ Smallest (F t k) from (latest (taskOf t k)) R
   -- "it misses exactly if there is none"
-  pub misses : (judge t k given .verdict ≡ Misses) ↔ ((R : ℕ) → ¬ Solution (F t k) from (D (taskOf t k)) R)
-  pub decided : (R : ℕ) (by : Delay) → judge t k given .verdict ≡ Holds (ps R) by → Decided t k R by
+  pub misses : (v ≡ Misses) ↔ ((R : ℕ) → ¬ Solution (F t k) from (latest (taskOf t k)) R)
+  pub decided : (R : ℕ) (by : Delay) → v ≡ Holds (ps R) by → Decided t k R by
 
 -- "A task's bound is the smallest whole time from 1 to its deadline that satisfies the response equation; it misses exactly if there
--- is none." "With a given start the answer is the least R at or above the start, up to D, with R = F(R)."
+-- is none."
 pub record PointTwo : Type 0 where
-  pub fresh : (t : Table) (k : ℕ) → AcceptedTask t k → Right t k 0 1
-  pub from-start : (t : Table) (k start : ℕ) → isAccepted (checkOne t k start) ≡ true → Right t k start (startOf t k start)
+  -- a fresh start is never refused
+  pub one-fresh : (t : Table) (k : ℕ) → AcceptedTask t k → judgeOne t k 0 .refusal ≡ accepted
+  pub all-fresh : (t : Table) → AcceptedTable t → judgeAll t freshStarts .refusal ≡ accepted
+  pub one : (t : Table) (k : ℕ) → AcceptedTask t k → Right t k 1 (judgeOne t k 0 .answer .verdict)
+  pub all : (t : Table) (k : ℕ) → AcceptedTask t k → Right t k 1 (answerTo k (judgeAll t freshStarts .answers) .verdict)
+  -- "With a given start the answer is the least R at or above the start, up to D, with R = F(R)."
+  pub one-from : (t : Table) (k start : ℕ) → isAccepted (judgeOne t k start .refusal) ≡ true
+      → Right t k (startOf t k start) (judgeOne t k start .answer .verdict)
+  pub all-from : (t : Table) (starts : List ℕ) → isAccepted (judgeAll t starts .refusal) ≡ true → (k : ℕ) → 1 ≤ k → k ≤ t .tasks
+      → Right t k (startOf t k (entry 0 starts k)) (answerTo k (judgeAll t starts .answers) .verdict)
+
+-- task k holds from a fresh start, with a bound no later than R
+pub record HoldsFresh (t : Table) (k R : ℕ) : Type 0 where
+  pub bound : ℕ
+  pub by : Delay
+  pub fresh : judgeOne t k 0 .answer .verdict ≡ Holds (ps bound) by
+  pub no-later : bound ≤ R
+
+-- A start that is not refused errs only to the safe side: a task that holds from it holds fresh, with a bound no later.
+pub record SafeSide : Type 0 where
+  pub one : (t : Table) (k start : ℕ) → isAccepted (judgeOne t k start .refusal) ≡ true
+      → (R : ℕ) (by : Delay) → judgeOne t k start .answer .verdict ≡ Holds (ps R) by → HoldsFresh t k R
+  pub all : (t : Table) (starts : List ℕ) → isAccepted (judgeAll t starts .refusal) ≡ true → (k : ℕ) → 1 ≤ k → k ≤ t .tasks
+      → (R : ℕ) (by : Delay) → answerTo k (judgeAll t starts .answers) .verdict ≡ Holds (ps R) by → HoldsFresh t k R

@@ -1,65 +1,83 @@
--- Point 3 of the mission: a newer table judged from the older one's bounds. Assumes nothing.
-use Prim.Native.Nat.{ℕ, _+_, _-_, _≤_, _<_}
+-- Point 3 of the mission, of the operations: a newer table judged from the older one's bounds. Assumes nothing.
+use Prim.Native.Nat.{ℕ, _≤_, _<_}
 use mathlib.Core.Path.{_≡_}
 use mathlib.Core.Bool.{true}
+use Rattle.equation.specs.Outcome.{Outcome, found, nothing}
 use Rattle.equation.specs.Rounds.{Course}
 use Rattle.rules.specs.declared.Table.{Table}
+use Rattle.rules.specs.declared.Answer.{Answer}
 use Rattle.rules.specs.declared.Delay.{Delay}
-use Rattle.rules.specs.declared.Verdict.the-variants.{Holds}
-use Rattle.laws.specs.Idioms.{sumOver, _/↑_}
+use Rattle.rules.specs.declared.Verdict.{Verdict}
+use Rattle.rules.specs.declared.Verdict.the-variants.{Holds, Misses}
 use Rattle.rules.specs.Units.{ps}
-use Rattle.rules.specs.Tasks.{T, D, taskOf}
-use Rattle.rules.specs.Others.{others}
+use Rattle.rules.specs.Tasks.{latest, taskOf}
+use Rattle.rules.specs.Others.{roundLimit}
 use Rattle.rules.specs.Response.{F}
-use Rattle.rules.specs.Judgement.{startOf, roundsOf, judge}
+use Rattle.rules.specs.Judgement.{startOf}
 use Rattle.rules.specs.Order.{worsens}
-use Rattle.rules.specs.Chain.{isAccepted}
-use Rattle.rules.specs.Refusals.{checkOne}
-use Rattle.rules.specs.Operations.{olderBound}
+use Rattle.rules.specs.Chain.{accepted, isAccepted}
+use Rattle.rules.specs.Operations.{judgeOne, judgeAll, freshStarts, olderBound, olderBounds, verdicts, rejudging}
 use Rattle.claims.specs.Files.{AcceptedTable}
-use Rattle.claims.specs.Point2.{Right}
+use Rattle.claims.specs.Point2.{Right, answerTo}
 
--- "Two accepted tables alike but that the newer may raise execution times and request counts and shorten periods", and a task of theirs
-pub record Worsened (older newer : Table) (k : ℕ) : Type 0 where
+-- "Two accepted tables alike but that the newer may raise execution times and request counts and shorten periods"
+pub record NewerWorse (older newer : Table) : Type 0 where
   pub older-accepted : AcceptedTable older
   pub newer-accepted : AcceptedTable newer
   pub alike : worsens older newer ≡ true
-  pub first : 1 ≤ k
-  pub last : k ≤ newer .tasks
 
--- "at most 2 plus, for each higher task on its core and each task elsewhere, that other task's periods begun within the deadline, less one each" (`others` are the higher tasks on its core and the tasks elsewhere)
-abbrev pub mostRounds : Table → ℕ → ℕ
-mostRounds t k = 2 + sumOver (others t k) (λ j. D (taskOf t k) /↑ T j - 1)
+-- what the rounds ended in, by the verdict
+abbrev pub outcomeOf : Verdict → Outcome
+outcomeOf (Holds bound by) = found (bound .0)
+outcomeOf Misses = nothing
 
 -- "the rounds are the equation's from that start": each round's t is F of the last, every round before the last raises it and not past the
--- deadline, and the last ends as the verdict says. So nothing else is their number.
-pub record Rounds (t : Table) (k start : ℕ) : Type 0 where
-  pub course : Course (F t k) (D (taskOf t k)) (startOf t k start) (roundsOf t k start .verdict) (judge t k start .rounds)
-  pub limit : judge t k start .rounds ≤ mostRounds t k
+-- deadline, and the last ends as the verdict says. No other number has that course.
+pub record Counted (t : Table) (k start : ℕ) (a : Answer) : Type 0 where
+  pub course : Course (F t k) (latest (taskOf t k)) (startOf t k start) (outcomeOf (a .verdict)) (a .rounds)
+  pub only : (v : Outcome) (n : ℕ) → Course (F t k) (latest (taskOf t k)) (startOf t k start) v n → n ≡ a .rounds
+  -- "at most 2 plus, for each higher task on its core and each task elsewhere, that other task's periods begun within the deadline, less one each"
+  pub limit : a .rounds ≤ roundLimit t k
 
--- "each task started from its older bound, or 0 where it missed"
-pub record Carried (older newer : Table) (k : ℕ) : Type 0 where
-  pub not-refused : isAccepted (checkOne newer k (olderBound older k)) ≡ true
+-- an answer to task k of the newer table, from its older bound
+pub record AnsweredFromOlder (older newer : Table) (k : ℕ) (a : Answer) : Type 0 where
   -- "verdict and bound are point 2's for the newer table"
-  pub right : Right newer k (olderBound older k) 1
-  pub same : judge newer k (olderBound older k) .verdict ≡ judge newer k 0 .verdict
-  pub rounds : Rounds newer k (olderBound older k)
+  pub right : Right newer k 1 (a .verdict)
+  pub counted : Counted newer k (olderBound older k) a
   -- "never more than fresh"
-  pub no-more : judge newer k (olderBound older k) .rounds ≤ judge newer k 0 .rounds
+  pub no-more : a .rounds ≤ answerTo k (judgeAll newer freshStarts .answers) .rounds
+
+-- "each task started from its older bound, or 0 where it missed": `olderBounds`
+pub record FromOlder (older newer : Table) : Type 0 where
+  -- all older bounds together are accepted starts of the newer table
+  pub not-refused : judgeAll newer (olderBounds older) .refusal ≡ accepted
+  pub each : (k : ℕ) → 1 ≤ k → k ≤ newer .tasks → AnsweredFromOlder older newer k (answerTo k (judgeAll newer (olderBounds older) .answers))
+  -- with the fresh verdicts
+  pub same : verdicts (judgeAll newer (olderBounds older) .answers) ≡ verdicts (judgeAll newer freshStarts .answers)
+  -- a newer table judged after an older one is judged from them
+  pub again-accepted : rejudging older newer .refusal ≡ accepted
+  pub again-carried : rejudging older newer .carried ≡ true
+  pub again-answers : rejudging older newer .answers ≡ judgeAll newer (olderBounds older) .answers
 
 pub record PointThree : Type 0 where
-  pub carried : (older newer : Table) (k : ℕ) → Worsened older newer k → Carried older newer k
+  pub from-older : (older newer : Table) → NewerWorse older newer → FromOlder older newer
+  -- one task: the same start is not refused and gives the same answer
+  pub one : (older newer : Table) → NewerWorse older newer → (k : ℕ) → 1 ≤ k → k ≤ newer .tasks
+      → judgeOne newer k (olderBound older k) ≡ record { refusal = accepted; answer = answerTo k (judgeAll newer (olderBounds older) .answers) }
   -- the course and the limit hold from every start that is not refused
-  pub every-start : (t : Table) (k start : ℕ) → isAccepted (checkOne t k start) ≡ true → Rounds t k start
+  pub every-start : (t : Table) (k start : ℕ) → isAccepted (judgeOne t k start .refusal) ≡ true → Counted t k start (judgeOne t k start .answer)
+  -- a newer table judged after any older one has its fresh verdicts
+  pub whatever-older : (older newer : Table) → isAccepted (rejudging older newer .refusal) ≡ true
+      → verdicts (rejudging older newer .answers) ≡ verdicts (judgeAll newer freshStarts .answers)
 
 -- "So point 3's premise on starts is needed": a start that is not refused and is above the bound can give another bound.
 pub record StartsMatter : Type 0 where
   pub table : Table
   pub task : ℕ
   pub start : ℕ
-  pub not-refused : isAccepted (checkOne table task start) ≡ true
+  pub not-refused : judgeOne table task start .refusal ≡ accepted
   pub bound : ℕ
   pub later-bound : ℕ
-  pub fresh : (by : Delay) × (judge table task 0 .verdict ≡ Holds (ps bound) by)
-  pub from-start : (by : Delay) × (judge table task start .verdict ≡ Holds (ps later-bound) by)
+  pub fresh : (by : Delay) × (judgeOne table task 0 .answer .verdict ≡ Holds (ps bound) by)
+  pub from-start : (by : Delay) × (judgeOne table task start .answer .verdict ≡ Holds (ps later-bound) by)
   pub differ : bound < later-bound

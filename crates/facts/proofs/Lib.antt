@@ -16,6 +16,7 @@
 --     Starts      the starts that are not refused
 --     LentStarts  a judgement looks only at the starts of its tasks
 --     Points      points 2 and 3 for tables
+--     AllStarts   the starts of all tasks together
 --     Again       a newer table has its fresh verdicts, carried or not
 pub mod First
 pub mod Chain
@@ -34,4 +35,5 @@ pub mod Instance
 pub mod Starts
 pub mod LentStarts
 pub mod Points
+pub mod AllStarts
 pub mod Again

@@ -15,7 +15,7 @@ use Rattle.laws.proofs.Tests.{inside}
 use Rattle.facts.proofs.Instance.{lowest-fits}
 
 module _ (t : Table) (k start : ℕ) where
-  passes-allowed : lateStart t k start ≡ false → highStart t k start ≡ false → AllowedStart t k start
+  pub passes-allowed : lateStart t k start ≡ false → highStart t k start ≡ false → AllowedStart t k start
   unfolding lateStart highStart
   passes-allowed late high = record { given = ltb-false _ _ late; rises = λ fits. ltb-false _ _ high }
 
