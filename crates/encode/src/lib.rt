@@ -20,7 +20,7 @@ fn put_figures(out: &mut [u8], at: usize, figures: &[u16], n: usize)
 {
     let mut i: usize = 0;
     while i < n {
-        bytesOf::put(out, at + 2 * i, figures[i] as u64, 2);
+        bytes::put(out, at + 2 * i, figures[i] as u64, 2);
         i += 1;
     }
 }
@@ -30,11 +30,11 @@ fn put_task(out: &mut [u8], at: usize, form: u8, task: Task)
     requires { ⌜ at + 29 ≤ length (now out) ⌝ }
     ensures { λ _. ⌜ now (out .exit) ≡ sets (now (out .entry)) at (recordBytes form task) ⌝ }
 {
-    bytesOf::put(out, at, task.core as u64, 1);
-    bytesOf::put(out, at + 1, task.exec.0, 8);
-    bytesOf::put(out, at + 9, task.period.0, 8);
-    bytesOf::put(out, at + 17, task.deadline.0, 8);
-    bytesOf::put(out, at + 25, task.requests as u64, 4);
+    bytes::put(out, at, task.core as u64, 1);
+    bytes::put(out, at + 1, task.exec.0, 8);
+    bytes::put(out, at + 9, task.period.0, 8);
+    bytes::put(out, at + 17, task.deadline.0, 8);
+    bytes::put(out, at + 25, task.requests as u64, 4);
 }
 
 // "Places of a table beyond its counts are ignored by the writer"
@@ -95,7 +95,7 @@ pub fn put_trailer(out: &mut [u8], e: usize)
     ensures { λ _. ⌜ now (out .exit) ≡ sets (now (out .entry)) e (trailer (take e (now (out .entry)))) ⌝ }
 {
     let total = sums::sums(&out[..e]);
-    bytesOf::put(out, e, e as u64, 4);
-    bytesOf::put(out, e + 4, total.sum, 4);
-    bytesOf::put(out, e + 8, total.running, 4);
+    bytes::put(out, e, e as u64, 4);
+    bytes::put(out, e + 4, total.sum, 4);
+    bytes::put(out, e + 8, total.running, 4);
 }
