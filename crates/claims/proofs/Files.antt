@@ -2,16 +2,19 @@
 use mathlib.Core.Path.{_≡_, refl, sym, ap, _∙_}
 use mathlib.Core.Bool.{Bool, true, false, cond}
 use mathlib.Core.List.{List, _++_}
-use Prim.Native.Nat.{ℕ, _≤_}
+use Prim.Native.Nat.{ℕ, _≤_, zero-le}
+use lib.Dec.{ltb}
 use lib.ListN.{length, take, drop, set}
 use lib.Seq.{take-append-seam, drop-append-seam}
-use borrow.Author.Tests.{le-ltb}
+use borrow.Author.Tests.{le-ltb, ltb-false}
 use Rattle.rules.specs.declared.Table.{Table}
-use Rattle.rules.specs.Chain.{accepted, isAccepted}
+use Rattle.rules.specs.Chain.{accepted, isAccepted, given}
+use Rattle.rules.specs.Refusals.{checkTable}
 use Rattle.rules.specs.File.{encode, decode}
 use Rattle.rules.specs.Operations.{emptyTable, checkFile, reading, checkWrite, writing, outAfter}
 use Rattle.laws.specs.Bytes.{Bytes}
 use Rattle.rules.proofs.EveryRule.{every-rule}
+use Rattle.facts.proofs.Chain.{both-accepted, no-fault}
 use Rattle.facts.proofs.Reading.{file-whole, decoded-accepted, read-table, read-accepted}
 use Rattle.claims.specs.Files.{AcceptedFile, AcceptedTable, Damage, Shape, cleared, Return, ReturnInPlace, OneToOne, NotEmpty}
 use Rattle.whole.proofs.Came.{Whole, whole, came-whole}
@@ -107,13 +110,26 @@ rest-kept t out = go (isAccepted (checkWrite t out))
     go true = drop-append-seam (encode t) (drop (length (encode t)) out)
     go false = refl
 
+length-fits : (t : Table) (out : List ℕ) → writing t out .length ≤ length out
+unfolding writing checkWrite
+length-fits t out = go (isAccepted (checkWrite t out)) refl
+  where
+    go : (b : Bool) → isAccepted (checkWrite t out) ≡ b → cond b (length (encode t)) 0 ≤ length out
+    go true e =
+        let short = ltb (length out) (length (encode t)) in
+        ltb-false _ _ (no-fault 14 0 short (both-accepted (checkTable t) (given 15 0 short) e .1))
+    go false e = zero-le
+
 pub return-in-place : ReturnInPlace
 return-in-place = record {
   read-written = λ t out shape passed room. rw (written-part t out passed room) (written-read-back t shape passed);
   written-read = λ s out b ok room.
       let back = read-written-back s ok b in
-      out-written (reading s .table) out (read-accepted s (checked s ok)) (rw back room) ∙ ap (λ (l : List ℕ). l ++ drop (length l) out) back;
+      let passed = read-accepted s (checked s ok) in
+      (written-length (reading s .table) out passed (rw back room) ∙ ap length back,
+      out-written (reading s .table) out passed (rw back room) ∙ ap (λ (l : List ℕ). l ++ drop (length l) out) back);
   room = λ t shape passed. file-small shape passed;
+  fits = length-fits;
   rest-stays = rest-kept;
 }
 

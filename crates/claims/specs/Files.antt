@@ -64,8 +64,10 @@ pub record ReturnInPlace : Type 0 where
   pub read-written : (t : Table) (out : List ℕ) → Shape t → AcceptedTable t → length (encode t) ≤ length out
       → reading (take (writing t out .length) (outAfter t out)) ≡ record { refusal = accepted; table = cleared t }
   pub written-read : (s out : List ℕ) → Bytes s → AcceptedFile s → length s ≤ length out
-      → outAfter (reading s .table) out ≡ s ++ drop (length s) out
+      → (writing (reading s .table) out .length ≡ length s) × (outAfter (reading s .table) out ≡ s ++ drop (length s) out)
   pub room : (t : Table) → Shape t → AcceptedTable t → length (encode t) ≤ 990
+  -- what is written fits, whatever the table
+  pub fits : (t : Table) (out : List ℕ) → writing t out .length ≤ length out
   pub rest-stays : (t : Table) (out : List ℕ) → drop (writing t out .length) (outAfter t out) ≡ drop (writing t out .length) out
 
 -- A file is of one table, and a table of one file.

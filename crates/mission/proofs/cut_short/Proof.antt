@@ -1,0 +1,22 @@
+-- A cut file is refused by `check`. Assumes nothing.
+use borrow.Author.Needs.{needs}
+use mathlib.Core.Path.{sym}
+use native.Mathlib.Omega.{arith}
+use lib.Seq.{length-take-le}
+use Rattle.rules.specs.Operations.{reading}
+use Rattle.claims.proofs.Files.{damage}
+use Rattle.mission.proofs.cut_short.Statement.{statement}
+use Rattle.mission.proofs.cut_short.Tie as tie
+
+returns : tie.Need-returns
+unfolding reading
+returns c whole short =
+    let a = c .before .before .before .before .args in
+    rw (c .check .ensures) (damage .cut-short (a .file .now) whole (a .n) short)
+
+returns-2 : tie.Need-returns-2
+returns-2 c whole short = absurd (omega (arith, c .before .if1 .left))
+
+pub cut-short-spec : {M : Type 1} → statement M
+cut-short-spec =
+    tie.close (tie.spec (λ c. sym (length-take-le _ _ (omega arith))) (λ c κs. search needs) returns (λ c κs. search needs) returns-2)

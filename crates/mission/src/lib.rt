@@ -1,0 +1,72 @@
+// The mission's sentences on the operations themselves: each function makes the calls that a sentence speaks of, and its contract is the sentence.
+// Nobody has to call these; they are here to be proved.
+ghost use mathlib.Core.Path.{_≡_};
+ghost use mathlib.Core.Logic.{_≢_};
+ghost use mathlib.Core.Bool.{false};
+ghost use Prim.Native.Nat.{_<_};
+ghost use lib.ListN.{length, getD};
+ghost use Rattle.rules.specs.Chain.{accepted, isAccepted};
+ghost use Rattle.claims.specs.Files.{AcceptedFile, AcceptedTable, cleared};
+ghost use Rattle.claims.specs.Point3.{NewerWorse};
+ghost use Rattle.mission.specs.Written.{WrittenBack};
+ghost use Rattle.mission.specs.Judged.{JudgedRight, CarriedRight};
+use rules::AllJudged;
+use rules::Read;
+use rules::Refusal;
+use rules::Rejudged;
+use rules::Table;
+
+// "No accepted table file is accepted when cut short": the first n bytes of a file.
+pub fn cut_short(file: &[u8], n: usize) -> Refusal
+    ensures { λ r. ⌜ (AcceptedFile (now (file .entry)) → n < length (now (file .entry)) → isAccepted r ≡ false) ⌝ }
+{
+    if n < file.len() {
+        return file::check(&file[..n]);
+    }
+    file::check(file)
+}
+
+// "nor with any one byte altered": byte i of a file becomes b.
+pub fn altered(file: &mut [u8], i: usize, b: u8) -> Refusal
+    ensures { λ r. ⌜ (AcceptedFile (now (file .entry)) → i < length (now (file .entry)) → b ≢ getD (now (file .entry)) i 0 → isAccepted r ≡ false) ⌝ }
+{
+    if file.len() <= i {
+        return file::check(file);
+    }
+    file[i] = b;
+    file::check(file)
+}
+
+// "Reading a written table returns it, unused places zero". No accepted table takes more than 990 bytes.
+pub fn written_then_read(t: Table) -> Read
+    ensures { λ r. ⌜ (AcceptedTable t → r ≡ record { refusal = accepted; table = cleared t }) ⌝ }
+{
+    let mut room = [0u8; 990];
+    let written = writer::write(t, &mut room);
+    file::read(&room[..written.length])
+}
+
+// "writing a read one returns the file": the length that was written, and the bytes in a buffer that has room for them.
+pub fn read_then_written(file: &[u8], out: &mut [u8]) -> usize
+    ensures { λ r. ⌜ WrittenBack (now (file .entry)) (now (out .entry)) r (now (out .exit)) ⌝ }
+{
+    let read = file::read(file);
+    let table = read.table;
+    let written = writer::write(table, out);
+    written.length
+}
+
+// "A task's bound is the smallest whole time from 1 to its deadline that satisfies the response equation; it misses exactly if there is none."
+pub fn judged_fresh(t: Table) -> AllJudged
+    ensures { λ r. ⌜ (AcceptedTable t → JudgedRight t r) ⌝ }
+{
+    judge::judge_all(t, [0u64; 32])
+}
+
+// "each task started from its older bound, or 0 where it missed: verdict and bound are point 2's for the newer table; the rounds are the
+// equation's from that start, never more than fresh, and at most .."
+pub fn carried(older: Table, newer: Table) -> Rejudged
+    ensures { λ r. ⌜ (NewerWorse older newer → CarriedRight older newer r) ⌝ }
+{
+    rejudge::judge_carried(older, newer)
+}
