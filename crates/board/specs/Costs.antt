@@ -7,6 +7,7 @@ use mathlib.Core.List.{List, map}
 use lib.ListN.{replicate}
 use Rattle.rules.specs.declared.Table.{Table}
 use Rattle.laws.specs.Idioms.{upTo, filled}
+use Rattle.rules.specs.Units.{ps}
 use Rattle.rules.specs.Cores.{isNear}
 use Rattle.facts.specs.Prices.{pricesOf}
 use Rattle.delays.specs.declared.Figures.{Figures}
@@ -15,10 +16,13 @@ use Rattle.board.specs.declared.CoreCosts.{CoreCosts}
 use Rattle.board.specs.Masks.{mask, sideMasks}
 
 unfoldable pub costsOf : Table → ℕ → CoreCosts
-costsOf t p = record { request = pricesOf t p .perRequest; weight = filled 8 0 (map (pricesOf t p .perCore) (upTo (t .cores))) }
+costsOf t p = record {
+  request = ps (pricesOf t p .perRequest);
+  weight = filled 8 (ps 0) (map (λ q. ps (pricesOf t p .perCore q)) (upTo (t .cores)));
+}
 
 abbrev pub noCosts : CoreCosts
-noCosts = record { request = 0; weight = replicate 8 0 }
+noCosts = record { request = ps 0; weight = replicate 8 (ps 0) }
 
 -- what the cores cost each other
 unfoldable pub allCosts : Table → List CoreCosts

@@ -14,11 +14,12 @@ ghost use Rattle.delays.specs.Figures.{FiguresBounded};
 ghost use Rattle.board.specs.Masks.{asBit, mask, onSide, sideMasks};
 ghost use Rattle.board.specs.Costs.{costsOf, allCosts, Shows};
 use delays::Figures;
+use rules::Picos;
 
-// For one core: RD, and what one request of each core costs one of its jobs.
+// For one core, as times: RD, and what one request of each core costs one of its jobs.
 pub struct CoreCosts {
-    pub request: u64,
-    pub weight: [u64; 8],
+    pub request: Picos,
+    pub weight: [Picos; 8],
 }
 
 // The two sets have a partition in common.
@@ -130,15 +131,16 @@ fn costs(cores: usize, near: u8, far: &[u8; 8], p: usize, f: Figures) -> CoreCos
     ensures { λ r. ⌜ ((t : Table) → t .cores ≡ cores → Shows p near (now (far .entry)) f t → r ≡ costsOf t p) ⌝ }
 {
     let mut sum: u64 = 0;
-    let mut weight = [0u64; 8];
+    let free = Picos(0);
+    let mut weight = [free; 8];
     let mut q: usize = 0;
     while q < cores {
         let each = weigh(near, far, p, q + 1, f);
-        weight[q] = each;
+        weight[q] = Picos(each);
         sum += each;
         q += 1;
     }
-    let request = request_delay(near, far, p, f, sum);
+    let request = Picos(request_delay(near, far, p, f, sum));
     CoreCosts { request, weight }
 }
 
@@ -151,9 +153,10 @@ pub fn all_costs(cores: usize, sets: &[u16; 8], row: [u16; 15]) -> [CoreCosts; 8
     let mut near = [0u8; 8];
     let mut far = [0u8; 8];
     all_sides(cores, sets, &mut near, &mut far);
+    let free = Picos(0);
     let none = CoreCosts {
-        request: 0,
-        weight: [0u64; 8],
+        request: free,
+        weight: [free; 8],
     };
     let mut all = [none; 8];
     let mut p: usize = 0;

@@ -3,6 +3,7 @@ use line::front;
 use line::labelled;
 use line::word;
 use rules::Answer;
+use rules::Picos;
 use rules::Read;
 use rules::Refusal;
 use rules::Rejudged;
@@ -142,7 +143,8 @@ fn put_spared(line: &mut [u8], at: usize, carried: bool, spent: u64, fresh: u64)
 }
 
 fn fresh_rounds(t: Table) -> u64 {
-    let judged = judge::judge_all(t, [0; 32]);
+    let fresh = Picos(0);
+    let judged = judge::judge_all(t, [fresh; 32]);
     let answers = judged.answers;
     rounds(answers)
 }

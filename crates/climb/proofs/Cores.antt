@@ -4,6 +4,7 @@ use mathlib.Core.List.{List}
 use Prim.Native.Nat.{ℕ, _+_, _*_, _≤_, _^_, zero-le}
 use native.Mathlib.Omega.{arith}
 use lib.ListN.{getD}
+use Rattle.rules.specs.Units.{ps}
 use Rattle.counts.specs.Counts.{sumBelow}
 use Rattle.counts.proofs.Sums.{below-next}
 use Rattle.climb.specs.declared.Own.{Own}
@@ -21,7 +22,7 @@ module _ {own : Own} {begins periods asks : List ℕ} {t : ℕ} where
   added-none = record { is = refl; high = zero-le; fits = zero-le }
 
   pub added-next : {q s r : ℕ} → Added own begins periods asks t q s → Group own begins periods asks q
-      → Charged (getD begins q 0) (getD begins (q + 1) 0) periods asks (getD (own .weight) q 0) t r → Added own begins periods asks t (q + 1) (s + r)
+      → Charged (getD begins q 0) (getD begins (q + 1) 0) periods asks (getD (own .weight) q (ps 0) .0) t r → Added own begins periods asks t (q + 1) (s + r)
   unfolding chargeOf
   added-next {q} so g more = record {
     is = rw (below-next (chargeOf own begins periods asks t) q) (omega (arith, so .is, more .is));

@@ -10,7 +10,7 @@ use Rattle.climb.specs.declared.Applied.{Applied}
 use Rattle.climb.specs.Terms.{Terms, aboveOf, requestOf, jobOf, timeOf, byOf, applied}
 
 module _ (m : Terms) (t : ℕ) {execs asked request job top : ℕ} (exec-is : execs ≡ aboveOf m (m .execs) t) (asked-is : asked ≡ aboveOf m (m .asks) t)
-    (cut : request ≡ min (m .own .delay * (m .own .requests + asked)) top) (is : job ≡ jobOf m t) (small : job < top) where
+    (cut : request ≡ min (m .own .delay .0 * (m .own .requests + asked)) top) (is : job ≡ jobOf m t) (small : job < top) where
   cut-is : request ≡ min (requestOf m t) top
   unfolding requestOf
   cut-is = rw asked-is at cut

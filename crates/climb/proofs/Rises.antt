@@ -31,7 +31,7 @@ module _ (t u : ℕ) (h : t ≤ u) (m : Terms) where
 
   request-rises : requestOf m t ≤ requestOf m u
   unfolding requestOf
-  request-rises = mul-le-mul-left (m .own .delay) (omega (arith, above-rises (m .asks)))
+  request-rises = mul-le-mul-left (m .own .delay .0) (omega (arith, above-rises (m .asks)))
 
   job-rises : jobOf m t ≤ jobOf m u
   unfolding jobOf chargeOf

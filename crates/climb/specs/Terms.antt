@@ -7,6 +7,7 @@ use lib.Dec.{leb}
 use lib.ListN.{getD}
 use Rattle.rules.specs.declared.Delay.{Delay}
 use Rattle.rules.specs.declared.Delay.the-variants.{Request, Job}
+use Rattle.rules.specs.Units.{ps}
 use Rattle.counts.specs.Counts.{sumBelow, askedBy, Slots}
 use Rattle.climb.specs.declared.Own.{Own}
 use Rattle.climb.specs.declared.Applied.{Applied}
@@ -20,7 +21,7 @@ pub record Charged (a e : ℕ) (periods asks : List ℕ) (weight t r : ℕ) : Ty
 
 pub record Group (own : Own) (begins periods asks : List ℕ) (q : ℕ) : Type 0 where
   pub slots : Slots (10 ^ 6) (getD begins q 0) (getD begins (q + 1) 0) periods asks
-  pub weight-high : getD (own .weight) q 0 ≤ 2 * 10 ^ 7
+  pub weight-high : getD (own .weight) q (ps 0) .0 ≤ 2 * 10 ^ 7
 
 pub record Groups (own : Own) (begins periods asks : List ℕ) : Type 0 where
   pub few : own .cores ≤ 8
@@ -28,7 +29,7 @@ pub record Groups (own : Own) (begins periods asks : List ℕ) : Type 0 where
 
 -- what the core in place q delays a job in t
 unfoldable pub chargeOf : Own → List ℕ → List ℕ → List ℕ → ℕ → ℕ → ℕ
-chargeOf own begins periods asks t q = askedBy 1 t (getD begins q 0) (getD begins (q + 1) 0) periods asks * getD (own .weight) q 0
+chargeOf own begins periods asks t q = askedBy 1 t (getD begins q 0) (getD begins (q + 1) 0) periods asks * getD (own .weight) q (ps 0) .0
 
 -- below the largest u64
 pub record Delayed (own : Own) (begins periods asks : List ℕ) (t r : ℕ) : Type 0 where
@@ -54,7 +55,7 @@ aboveOf m costs t = askedBy 0 t (m .own .first) (m .own .place) (m .periods) cos
 
 -- "Request is RD(p) times (H + sum over the same j of (t/Tj rounded up) times Hj). Job is JD(p, t)."
 unfoldable pub requestOf : Terms → ℕ → ℕ
-requestOf m t = m .own .delay * (m .own .requests + aboveOf m (m .asks) t)
+requestOf m t = m .own .delay .0 * (m .own .requests + aboveOf m (m .asks) t)
 
 unfoldable pub jobOf : Terms → ℕ → ℕ
 jobOf m t = sumBelow (chargeOf (m .own) (m .begins) (m .periods) (m .asks) t) (m .own .cores)

@@ -59,8 +59,8 @@ pub struct Own {
     pub exec: u64,
     pub requests: u64,
     pub latest: u64,
-    pub delay: u64,
-    pub weight: [u64; 8],
+    pub delay: Picos,
+    pub weight: [Picos; 8],
     pub cores: usize,
     pub first: usize,
     pub place: usize,
@@ -89,7 +89,15 @@ fn job(
     let mut sum: u64 = 0;
     let mut q: usize = 0;
     while q < own.cores {
-        sum += charged(from[q], from[q + 1], periods, invs, asks, own.weight[q], t);
+        sum += charged(
+            from[q],
+            from[q + 1],
+            periods,
+            invs,
+            asks,
+            own.weight[q].0,
+            t,
+        );
         q += 1;
     }
     sum
@@ -118,7 +126,7 @@ fn apply(
     let higher = counts::asked_higher(own.first, own.place, periods, invs, execs, asks, t);
     let exec = own.exec + higher.execs;
     let requests = own.requests + higher.requests;
-    let delay = own.delay;
+    let delay = own.delay.0;
     let request = capped(delay, requests);
     let job = job(own, from, periods, invs, asks, t);
     if request <= job {

@@ -10,7 +10,9 @@ use Rattle.equation.specs.Rounds as rounds
 use Rattle.rules.specs.declared.Task.{Task}
 use Rattle.rules.specs.declared.Table.{Table}
 use Rattle.rules.specs.declared.Delay.{Delay}
+use Rattle.rules.specs.declared.Picos.{Picos}
 use Rattle.rules.specs.declared.Answer.{Answer}
+use Rattle.rules.specs.Units.{ps}
 use Rattle.rules.specs.Tasks.{C, T, H, releases, latest, tasksOf, taskOf, coreOf, isOn, tasksOn, higher, arrivals}
 use Rattle.rules.specs.Board.{memoryOf}
 use Rattle.facts.specs.Prices.{pricesOf, jobAt}
@@ -79,11 +81,11 @@ module _ (t : Table) (k : ℕ) {first place : ℕ} {begins spans costs asks : Li
   abbrev price : ℕ → ℕ
   price q = pricesOf t (coreOf t k) .perCore q
 
-  weight-at : (q : ℕ) → q < t .cores → getD (m .own .weight) q 0 ≡ price (q + 1)
+  weight-at : (q : ℕ) → q < t .cores → getD (m .own .weight) q (ps 0) .0 ≡ price (q + 1)
   unfolding costsOf
   weight-at q h =
       let less : q + 1 - 1 ≡ q = omega arith in
-      rw less at (place-of 0 price 8 (t .cores) (q + 1) (omega arith) (omega arith))
+      rw less at (ap (λ (x : Picos). x .0) (place-of (ps 0) (λ r. ps (price r)) 8 (t .cores) (q + 1) (omega arith) (omega arith)))
 
   charge-is : (x q : ℕ) → q < t .cores → chargeOf (m .own) begins spans asks x q ≡ arrivals t (q + 1) x * price (q + 1)
   unfolding chargeOf arrivals releases

@@ -13,6 +13,7 @@ use lines::put_refusal;
 use lines::refused;
 use rules::AllJudged;
 use rules::Judged;
+use rules::Picos;
 use rules::Refusal;
 use rules::Table;
 use rules::Written;
@@ -125,7 +126,7 @@ fn put_one(out: &mut [u8], judged: Judged) -> usize {
 // J: one task from a start.
 fn judge_one(payload: &[u8], out: &mut [u8]) -> usize {
     let all = raw::padded(payload);
-    let start = bytes::le64(&all, 1);
+    let start = Picos(bytes::le64(&all, 1));
     put_one(out, judge::judge_one(raw::table(&all, 9), all[0], start))
 }
 

@@ -85,13 +85,14 @@ pub fn table(s: &[u8], at: usize) -> Table
     }
 }
 
-pub fn starts(s: &[u8]) -> [u64; 32]
+pub fn starts(s: &[u8]) -> [Picos; 32]
     requires { ⌜ 256 ≤ length (now s) ⌝ }
 {
-    let mut all = [0u64; 32];
+    let fresh = Picos(0);
+    let mut all = [fresh; 32];
     let mut i: usize = 0;
     while i < 32 {
-        all[i] = bytes::le64(s, 8 * i);
+        all[i] = Picos(bytes::le64(s, 8 * i));
         i += 1;
     }
     all

@@ -4,6 +4,7 @@ use mathlib.Core.Path.{_≡_}
 use mathlib.Core.Bool.{Bool}
 use mathlib.Core.List.{List}
 use Rattle.rules.specs.declared.Table.{Table}
+use Rattle.rules.specs.declared.Picos.{Picos}
 use Rattle.rules.specs.declared.Refusal.{Refusal}
 use Rattle.rules.specs.declared.Answer.{Answer}
 use Rattle.rules.specs.declared.Read.{Read}
@@ -16,6 +17,7 @@ use Rattle.rules.specs.Refusals.{checkBoard, checkTasks, checkTable}
 use Rattle.rules.specs.File.{checkWhole}
 use Rattle.rules.specs.Operations.{checkFile, reading, checkView, viewing, judgeOne, judgeAll}
 use Rattle.rules.specs.Listing.{listing}
+use Rattle.judge.specs.Starts.{inPicos}
 use Rattle.rejudge.specs.Carried.{Carried}
 use Rattle.writer.specs.Answers.{Wrote}
 use Rattle.text.specs.Put.{Given}
@@ -44,8 +46,8 @@ pub record Promises : Type 0 where
   -- order
   pub worsens : (older newer : Table) → Exact (λ (r : Bool). r ≡ Order.worsens older newer)
   -- judge
-  pub judge-one : (t : Table) (k start : ℕ) → Exact (λ (r : Judged). r ≡ judgeOne t k start)
-  pub judge-all : (t : Table) (starts : List ℕ) → Exact (λ (r : AllJudged). r ≡ judgeAll t starts)
+  pub judge-one : (t : Table) (k : ℕ) (start : Picos) → Exact (λ (r : Judged). r ≡ judgeOne t k (start .0))
+  pub judge-all : (t : Table) (starts : List Picos) → Exact (λ (r : AllJudged). r ≡ judgeAll t (inPicos starts))
   -- rejudge
   pub judge-carried : (older newer : Table) → Exact (λ (r : Rejudged). Carried older newer r)
   -- listing

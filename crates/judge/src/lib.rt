@@ -3,8 +3,10 @@ ghost use mathlib.Core.Path.{_≡_};
 ghost use Rattle.rules.specs.Refusals.{checkJudged, checkStart};
 ghost use Rattle.rules.specs.Operations.{judgeOne, judgeAll};
 ghost use Rattle.columns.specs.Numbered.{notJudged};
+ghost use Rattle.judge.specs.Starts.{inPicos};
 use rules::AllJudged;
 use rules::Judged;
+use rules::Picos;
 use rules::Refusal;
 use rules::Table;
 use rules::refused;
@@ -47,14 +49,14 @@ fn check_start(table: Table, k: u8, start: u64) -> Refusal
 }
 
 // "A judgement is of one task with one start": refusals 5 to 14, or the answer.
-pub fn judge_one(table: Table, k: u8, start: u64) -> Judged
-    ensures { λ r. ⌜ r ≡ judgeOne table k start ⌝ }
+pub fn judge_one(table: Table, k: u8, start: Picos) -> Judged
+    ensures { λ r. ⌜ r ≡ judgeOne table k (start .0) ⌝ }
 {
-    let refusal = check_start(table, k, start);
+    let refusal = check_start(table, k, start.0);
     if refusal.number != 0 {
         return not_judged(refusal);
     }
-    let climbed = columns::judge_task(table, k, start);
+    let climbed = columns::judge_task(table, k, start.0);
     if climbed.high {
         return not_judged(refused(14, k));
     }
@@ -65,13 +67,26 @@ pub fn judge_one(table: Table, k: u8, start: u64) -> Judged
     }
 }
 
+// The starts as a column of numbers.
+fn numbers(starts: [Picos; 32]) -> [u64; 32]
+    ensures { λ r. ⌜ r ≡ inPicos starts ⌝ }
+{
+    let mut column = [0u64; 32];
+    let mut i: usize = 0;
+    while i < 32 {
+        column[i] = starts[i].0;
+        i += 1;
+    }
+    column
+}
+
 // "or of all with 32 starts": refusals 5 to 11, 13 and 14, or the answers.
-pub fn judge_all(table: Table, starts: [u64; 32]) -> AllJudged
-    ensures { λ r. ⌜ r ≡ judgeAll table starts ⌝ }
+pub fn judge_all(table: Table, starts: [Picos; 32]) -> AllJudged
+    ensures { λ r. ⌜ r ≡ judgeAll table (inPicos starts) ⌝ }
 {
     let refusal = gate(table);
     if refusal.number != 0 {
         return rounds::none_judged(refusal);
     }
-    columns::judge_tasks(table, starts)
+    columns::judge_tasks(table, numbers(starts))
 }

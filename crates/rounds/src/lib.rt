@@ -35,12 +35,13 @@ pub fn own_at(
     requires { ⌜ place ≤ 32 ⌝ }
     ensures { λ r. ⌜ r ≡ ownWith (getD (now (costs .entry)) place 0) (getD (now (asks .entry)) place 0) latest cost cores first place ⌝ }
 {
+    let delay = cost.request;
     let weight = cost.weight;
     Own {
         exec: costs[place],
         requests: asks[place],
         latest,
-        delay: cost.request,
+        delay,
         weight,
         cores,
         first,

@@ -15,7 +15,7 @@ abbrev μ-loop : tie.MeasureT-loop
 
 loop-again : tie.Need-loop-again Inv-loop μ-loop
 loop-again c =
-    let l = c .before .before .before .before .before in
+    let l = c .before .before .before .before in
     (search needs, added-next (l .loop .inv .1) (l .before .pre .1 .each (l .loop .q) (omega arith)) (c .charged .ensures))
 
 returns : tie.Need-returns Inv-loop μ-loop
@@ -29,5 +29,5 @@ job-spec =
     tie.close
     (tie.spec Inv-loop μ-loop (λ c. (search needs, added-none)) (λ c. search needs) (λ c. search needs) (λ c. search needs) (λ c. search needs)
     (λ c. search needs) (λ c. search needs) (λ c. search needs)
-    (λ c κs. let p = c .before .before .before .before .before .pre in let g = p .1 .each (c .before .before .before .before .loop .q) (omega arith) in ((p .0 .0, g .weight-high, p .0 .1), g .slots))
+    (λ c κs. let p = c .before .before .before .before .pre in let g = p .1 .each (c .before .before .before .loop .q) (omega arith) in ((p .0 .0, g .weight-high, p .0 .1), g .slots))
     (λ c. omega (arith, loop-again c .1 .fits)) (λ c. search needs) (λ c. search needs) loop-again returns)

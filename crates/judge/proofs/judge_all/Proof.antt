@@ -4,6 +4,8 @@ use mathlib.Core.Path.{_∙_, ap}
 use Rattle.facts.proofs.Starts.{judged-accepted}
 use Rattle.facts.proofs.Chain.{passes, refuses}
 use Rattle.rounds.specs.Lent.{noneJudged}
+use Rattle.rules.specs.Operations.{judgeAll}
+use Rattle.judge.specs.Starts.{inPicos}
 use Rattle.judge.proofs.Links.{all-table}
 use Rattle.judge.proofs.judge_all.Statement.{statement}
 use Rattle.judge.proofs.judge_all.Tie as tie
@@ -12,10 +14,11 @@ returns : tie.Need-returns
 returns c =
     let a = c .before .before .before .before .args in
     let e = c .before .before .before .gate .ensures in
-    c .none-judged .ensures ∙ ap noneJudged e ∙ all-table (a .table) (a .starts) (refuses e (c .before .if1 .taken))
+    c .none-judged .ensures ∙ ap noneJudged e ∙ all-table (a .table) (inPicos (a .starts)) (refuses e (c .before .if1 .taken))
 
 pub judge-all-spec : {M : Type 1} → statement M
 judge-all-spec =
     tie.close
     (tie.spec (λ c κs. search needs) (λ c κs. search needs) returns
-    (λ c κs. judged-accepted _ (passes (c .before .before .gate .ensures) (c .if1 .left))) (λ c. c .judge-tasks .ensures))
+    (λ c κs. search needs)
+    (λ c κs. judged-accepted _ (passes (c .before .before .before .gate .ensures) (c .before .if1 .left))) (λ c. c .judge-tasks .ensures ∙ ap (judgeAll _) (c .before .numbers .ensures)))

@@ -7,7 +7,7 @@ use lib.ListN.{length}
 use lib.Seq.{take-all}
 use Rattle.rules.specs.Judgement.{misses}
 use Rattle.rules.specs.Operations.{answersFrom, fresh}
-use Rattle.rejudge.proofs.Column.{Column, column-none, column-next}
+use Rattle.judge.proofs.Column.{Column, column-none, column-next}
 use Rattle.rejudge.specs.Carried.{startOf, olderStarts}
 use Rattle.rejudge.proofs.Allowed.{all-fresh, answers-long, fresh-starts}
 use Rattle.facts.proofs.LentStarts.{answers-same}
