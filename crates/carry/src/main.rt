@@ -87,12 +87,12 @@ fn say_closed(name: &[u8]) {
     say(&line, end);
 }
 
-// No more than 7,952 bytes are read: they say what a longer file is read as (`front-reads` of listing/proofs/Long.antt).
+// No more than 7,952 bytes are read: they say what a longer file is read as (`input::front`).
 fn read_file(fd: i32) -> Read {
     let mut bytes = [0u8; 7952];
     let k = io::read_full(fd, &mut bytes);
     libc::close(fd);
-    file::read(&bytes[..k])
+    file::read(input::front(&bytes, k))
 }
 
 // The table of a file. Where there is none a line says why, and the answer is a refusal.

@@ -152,6 +152,15 @@ fn judge_all(payload: &[u8], out: &mut [u8]) -> usize {
     put_all(out, judge::judge_all(table, raw::starts(&all)))
 }
 
+// T: a table passed directly, judged and listed.
+fn list_raw(payload: &[u8], out: &mut [u8]) -> usize {
+    let all = raw::padded(payload);
+    let table = raw::table(&all, 256);
+    let judged = judge::judge_all(table, raw::starts(&all));
+    let answers = judged.answers;
+    listing::lines(table, answers, out)
+}
+
 fn answer(letter: u8, payload: &[u8], out: &mut [u8]) -> usize {
     match letter {
         b'L' => listing::list(payload, out),
@@ -160,6 +169,7 @@ fn answer(letter: u8, payload: &[u8], out: &mut [u8]) -> usize {
         b'W' => write(payload, out),
         b'J' => judge_one(payload, out),
         b'A' => judge_all(payload, out),
+        b'T' => list_raw(payload, out),
         _ => word(out, 0, b"unknown\n"),
     }
 }

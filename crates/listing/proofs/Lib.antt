@@ -1,7 +1,5 @@
 -- Laws that belong to no one function.
 --     TableLines the lines of a table
 --     Listed     what is listed for a file, by what reading it gave
---     Long       how much of a file there is to read
 pub mod TableLines
 pub mod Listed
-pub mod Long

@@ -9,11 +9,9 @@ use Rattle.rules.specs.declared.Read.{Read}
 use Rattle.rules.specs.Chain.{isAccepted}
 use Rattle.rules.specs.Refusals.{checkTable}
 use Rattle.rules.specs.Operations.{reading, judgeAll}
-use Rattle.rules.specs.Listing.{listing}
-use Rattle.facts.proofs.Accepted.{sound}
+use Rattle.rules.specs.Listing.{tableLines, listing}
 use Rattle.facts.proofs.Reading.{read-accepted}
-use Rattle.listing.specs.Lines.{tableText, refusedLine}
-use Rattle.listing.proofs.TableLines.{text-whole}
+use Rattle.listing.specs.Lines.{refusedLine}
 
 module _ (s : List ℕ) (r : Read) (read : r ≡ reading s) where
   pub listed-refused : (r .refusal .number ≡ 0 → ⊥) → listing s ≡ refusedLine (r .refusal .number)
@@ -25,8 +23,6 @@ module _ (s : List ℕ) (r : Read) (read : r ≡ reading s) where
     unfolding reading
     table-accepted = rw read (read-accepted s (rw read at (eq-eqb (r .refusal .number) 0 h)))
 
-    pub listed-table : listing s ≡ tableText (r .table) (judgeAll (r .table) (replicate 32 0) .answers)
+    pub listed-table : listing s ≡ tableLines (r .table) (judgeAll (r .table) (replicate 32 0) .answers)
     unfolding listing
-    listed-table =
-        let e : isAccepted (r .refusal) ≡ true = eq-eqb _ 0 h in
-        rw (text-whole (r .table) _ (sound (r .table) table-accepted .tasks-in .high), ← read, e)
+    listed-table = rw (← read, eq-eqb (r .refusal .number) 0 h)

@@ -31,15 +31,12 @@ fn put_table(buf: &mut [u8], t: Table, answers: [Answer; 32]) -> usize
     put_last(buf, end, first_miss(n, answers))
 }
 
-// The lines of a table with its answers, whole, and their length; where they do not fit, nothing, and 0.
-// A table whose count is above 32 has no lines. A buffer of 3266 bytes has room for any.
-pub fn lines(t: Table, answers: [Answer; 32], out: &mut [u8]) -> usize
-    ensures { λ r. ⌜ Given (tableText t answers) (now (out .entry)) r (now (out .exit)) ⌝ }
-    ensures { λ _. ⌜ length (tableText t answers) ≤ 3266 ⌝ }
+// The lines of a table that was accepted, whole, and their length; where they do not fit, nothing, and 0.
+fn accepted_lines(t: Table, answers: [Answer; 32], out: &mut [u8]) -> usize
+    requires { ⌜ isAccepted (checkTable t) ≡ true ⌝ }
+    ensures { λ r. ⌜ Given (tableLines t answers) (now (out .entry)) r (now (out .exit)) ⌝ }
+    ensures { λ _. ⌜ length (tableLines t answers) ≤ 3266 ⌝ }
 {
-    if t.tasks > 32 {
-        return 0;
-    }
     let mut made = [0u8; 3266];
     let n = put_table(&mut made, t, answers);
     give(&made[..n], out)
@@ -55,15 +52,27 @@ pub fn refused(number: u8, out: &mut [u8]) -> usize
     give(&made[..n], out)
 }
 
-// A table that was read, judged from nothing.
+// The lines of a table with its answers, or the line of its refusal: likewise. A buffer of 3266 bytes has room for any.
+pub fn lines(t: Table, answers: [Answer; 32], out: &mut [u8]) -> usize
+    ensures { λ r. ⌜ Given (tableText t answers) (now (out .entry)) r (now (out .exit)) ⌝ }
+    ensures { λ _. ⌜ length (tableText t answers) ≤ 3266 ⌝ }
+{
+    let refusal = checks::check(t);
+    if refusal.number != 0 {
+        return refused(refusal.number, out);
+    }
+    accepted_lines(t, answers, out)
+}
+
+// A table that was read, judged from nothing. It is not checked again.
 fn list_table(t: Table, out: &mut [u8]) -> usize
     requires { ⌜ isAccepted (checkTable t) ≡ true ⌝ }
-    ensures { λ r. ⌜ Given (tableText t (judgeAll t (replicate 32 0) .answers)) (now (out .entry)) r (now (out .exit)) ⌝ }
-    ensures { λ _. ⌜ length (tableText t (judgeAll t (replicate 32 0) .answers)) ≤ 3266 ⌝ }
+    ensures { λ r. ⌜ Given (tableLines t (judgeAll t (replicate 32 0) .answers)) (now (out .entry)) r (now (out .exit)) ⌝ }
+    ensures { λ _. ⌜ length (tableLines t (judgeAll t (replicate 32 0) .answers)) ≤ 3266 ⌝ }
 {
     let judged = columns::judge_tasks(t, [0u64; 32]);
     let answers = judged.answers;
-    lines(t, answers, out)
+    accepted_lines(t, answers, out)
 }
 
 // The listing of a table file, whole, and its length; where it does not fit, nothing, and 0.

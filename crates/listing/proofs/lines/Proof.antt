@@ -1,28 +1,28 @@
--- `lines` meets its contract. Assumes nothing.
-use mathlib.Core.Path.{sym}
+-- `lines` meets its contract: what the check gave decides which text is given. Assumes nothing.
 use native.Mathlib.Omega.{arith}
 use borrow.Author.Needs.{needs}
-use lib.Seq.{length-take-le}
-use Rattle.text.proofs.Put.{nothing, front-length, front, given-whole}
-use Rattle.listing.proofs.TableLines.{text-none, text-whole}
+use Rattle.listing.proofs.TableLines.{text-refused, text-accepted, text-whole}
 use Rattle.listing.proofs.lines.Statement.{statement}
 use Rattle.listing.proofs.lines.Tie as tie
 
 returns : tie.Need-returns
 returns c =
-    let over = c .if1 .taken in
-    (rw text-none (given-whole _ _ (omega arith) (nothing _ 0)), rw text-none (omega arith))
+    let line = c .before .before in
+    let test = line .before .before in
+    let is = text-refused _ _ (test .before .before .check .ensures) (test .if1 .taken) in
+    (rw is (line .refused .ensures .0), rw is (omega (arith, line .refused .ensures .1)))
+
+accepted-lines-requires : tie.Need-accepted-lines-requires
+accepted-lines-requires c κs = let test = c .before in text-accepted _ _ (test .before .before .check .ensures) (test .if1 .left)
 
 returns-2 : tie.Need-returns-2
 returns-2 c =
-    let give = c .before .before in
-    let table = give .before .before .before .before in
-    let within = table .before .before .if1 .left in
-    let put = table .put-table .ensures .0 in
-    (rw text-whole (rw (front put (omega arith)) at (give .give .ensures)), rw text-whole (omega (arith, front-length put)))
+    let lines = c .before .before in
+    let test = lines .before .before in
+    let is = text-whole _ _ (test .before .before .check .ensures) (test .if1 .left) in
+    (rw is (lines .accepted-lines .ensures .0), rw is (lines .accepted-lines .ensures .1))
 
 pub lines-spec : {M : Type 1} → statement M
 lines-spec =
     tie.close
-    (tie.spec returns (λ c. search needs) (λ c κs. search needs) (λ c. search needs) (λ c. sym (length-take-le _ _ (omega arith)))
-    (λ c κs. search needs) (λ c. search needs) returns-2)
+    (tie.spec (λ c κs. search needs) (λ c κs. search needs) (λ c. search needs) returns accepted-lines-requires (λ c. search needs) returns-2)

@@ -1,0 +1,3 @@
+-- What the contract of `front` cites beside the rules.
+--     StandsFor  what the front of an input says of the whole input
+pub mod StandsFor
