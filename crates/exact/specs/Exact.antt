@@ -16,12 +16,11 @@ use Rattle.rules.specs.Order as Order
 use Rattle.rules.specs.Refusals.{checkBoard, checkTasks, checkTable}
 use Rattle.rules.specs.File.{checkWhole}
 use Rattle.rules.specs.Operations.{checkFile, reading, checkView, viewing, judgeOne, judgeAll}
-use Rattle.rules.specs.Listing.{listing}
+use Rattle.rules.specs.Listing.{listing, tableText}
 use Rattle.judge.specs.Starts.{inPicos}
 use Rattle.rejudge.specs.Carried.{Carried}
 use Rattle.writer.specs.Answers.{Wrote}
 use Rattle.text.specs.Put.{Given}
-use Rattle.listing.specs.Lines.{tableText}
 use Rattle.plain.specs.Codes.{codeOf}
 use Rattle.capi.specs.JudgedFile.{JudgedFile}
 use Rattle.capi.specs.Record.{recordPlace}

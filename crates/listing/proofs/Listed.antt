@@ -9,9 +9,8 @@ use Rattle.rules.specs.declared.Read.{Read}
 use Rattle.rules.specs.Chain.{isAccepted}
 use Rattle.rules.specs.Refusals.{checkTable}
 use Rattle.rules.specs.Operations.{reading, judgeAll}
-use Rattle.rules.specs.Listing.{tableLines, listing}
+use Rattle.rules.specs.Listing.{tableLines, listing, refusedLine}
 use Rattle.facts.proofs.Reading.{read-accepted}
-use Rattle.listing.specs.Lines.{refusedLine}
 
 module _ (s : List ℕ) (r : Read) (read : r ≡ reading s) where
   pub listed-refused : (r .refusal .number ≡ 0 → ⊥) → listing s ≡ refusedLine (r .refusal .number)

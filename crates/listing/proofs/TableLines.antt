@@ -8,10 +8,9 @@ use Rattle.rules.specs.declared.Refusal.{Refusal}
 use Rattle.rules.specs.declared.Answer.{Answer}
 use Rattle.rules.specs.Chain.{isAccepted}
 use Rattle.rules.specs.Refusals.{checkTable}
-use Rattle.rules.specs.Listing.{tableLines}
+use Rattle.rules.specs.Listing.{tableLines, tableText, refusedLine}
 use Rattle.laws.specs.Idioms.{text}
 use Rattle.rows.specs.Rows.{rows, last}
-use Rattle.listing.specs.Lines.{tableText, refusedLine}
 
 pub table-lines : (t : Table) (answers : List Answer)
     → tableLines t answers ≡ text "task core verdict bound by rounds\n" ++ rows t answers (t .tasks) ++ last answers (t .tasks)

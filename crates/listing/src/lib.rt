@@ -14,9 +14,8 @@ ghost use lib.ListN.{length, replicate};
 ghost use Rattle.rules.specs.Chain.{isAccepted};
 ghost use Rattle.rules.specs.Refusals.{checkTable};
 ghost use Rattle.rules.specs.Operations.{judgeAll};
-ghost use Rattle.rules.specs.Listing.{tableLines, listing};
+ghost use Rattle.rules.specs.Listing.{tableLines, listing, tableText, refusedLine};
 ghost use Rattle.text.specs.Put.{Put, Given};
-ghost use Rattle.listing.specs.Lines.{tableText, refusedLine};
 
 // The lines of a table, which take at most 34 bytes, 100 a task and 32.
 fn put_table(buf: &mut [u8], t: Table, answers: [Answer; 32]) -> usize
