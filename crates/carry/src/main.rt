@@ -14,54 +14,18 @@ fn say(line: &[u8], n: usize) {
     io::write_all(libc::STDOUT_FILENO, front(line, n));
 }
 
-// Document 01's refusals of a file, in a few words.
-fn put_fault(line: &mut [u8], at: usize, which: u8) -> usize {
-    match which {
-        1 => word(line, at, b"it has under 46 bytes"),
-        2 => word(line, at, b"its length isn't what its counts say"),
-        3 => word(line, at, b"its trailer gives another length"),
-        _ => word(line, at, b"a sum is wrong"),
-    }
-}
-
-fn put_board_fault(line: &mut [u8], at: usize, which: u8) -> usize {
-    match which {
-        5 => word(line, at, b"a count is outside its limits"),
-        6 => word(line, at, b"a timing figure is outside its range"),
-        7 => word(line, at, b"a relation between timing figures is broken"),
-        _ => word(
-            line,
-            at,
-            b"a core's set is empty or names a partition above the count",
-        ),
-    }
-}
-
-fn put_task_fault(line: &mut [u8], at: usize, which: u8) -> usize {
-    match which {
-        9 => word(line, at, b"a task's core isn't one of the table's"),
-        10 => word(
-            line,
-            at,
-            b"a period, deadline or execution time is outside its limits",
-        ),
-        _ => word(line, at, b"a request count is above 1000000"),
-    }
-}
-
-fn put_reason(line: &mut [u8], at: usize, which: u8) -> usize {
-    match which {
-        1..=4 => put_fault(line, at, which),
-        5..=8 => put_board_fault(line, at, which),
-        _ => put_task_fault(line, at, which),
-    }
-}
-
 fn put_place(line: &mut [u8], at: usize, place: u8) -> usize {
     if place == 0 {
         return at;
     }
     labelled(line, at, b", place ", place as u64)
+}
+
+// Why, in a few words.
+fn put_reason(line: &mut [u8], at: usize, which: u8) -> usize {
+    let mut words = [0u8; reasons::LONGEST];
+    let n = reasons::reason(which, &mut words);
+    word(line, at, front(&words, n))
 }
 
 fn put_refusal(line: &mut [u8], at: usize, refusal: Refusal) -> usize {
@@ -71,7 +35,7 @@ fn put_refusal(line: &mut [u8], at: usize, refusal: Refusal) -> usize {
     put_reason(line, open, refusal.number)
 }
 
-// `NAME: refused 9, place 3 (a task's core isn't one of the table's)`. A name and the words after it fit the line.
+// `NAME: refused 9, place 3 (a task's core is not one of the table's)`. A name and the words after it fit the line.
 fn say_refused(name: &[u8], refusal: Refusal) {
     let mut line = [0u8; 4352];
     let who = word(&mut line, 0, name);

@@ -6,6 +6,7 @@ use mathlib.Core.List.{List, map}
 use Rattle.rules.specs.declared.Table.{Table}
 use Rattle.rules.specs.declared.Answer.{Answer}
 use Rattle.rules.specs.declared.Refusal.{Refusal}
+use Rattle.rules.specs.declared.Faulty.{Faulty}
 use Rattle.rules.specs.declared.Rejudged.{Rejudged}
 use Rattle.laws.specs.Idioms.{entry}
 use Rattle.rules.specs.Judgement.{boundOf}
@@ -24,9 +25,9 @@ olderStarts older = map startOf (answersFrom older fresh)
 abbrev pub AllAllowed : Table → List ℕ → Type 0
 AllAllowed t starts = (k : ℕ) → 1 ≤ k → k ≤ t .tasks → AllowedStart t k (entry 0 starts k)
 
--- refused: no answer
-unfoldable pub notRejudged : Refusal → Rejudged
-notRejudged r = record { refusal = r; carried = false; answers = noAnswers }
+-- one of the two is refused: no answer
+unfoldable pub notRejudged : Refusal → Faulty → Rejudged
+notRejudged r which = record { refusal = r; faulty = which; carried = false; answers = noAnswers }
 
 -- The result is the rules'; and where nothing is refused its verdicts are those of a fresh judgement of the newer table, carried or not.
 pub record Carried (older newer : Table) (r : Rejudged) : Type 0 where

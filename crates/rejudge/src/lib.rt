@@ -4,9 +4,11 @@ ghost use mathlib.Core.Bool.{true};
 ghost use Rattle.laws.specs.Idioms.{entry};
 ghost use Rattle.rules.specs.Chain.{isAccepted};
 ghost use Rattle.rules.specs.Refusals.{checkTable};
-ghost use Rattle.rules.specs.Operations.{answersFrom};
+ghost use Rattle.rules.specs.Order.{worsens};
+ghost use Rattle.rules.specs.Operations.{answersFrom, rejudging};
 ghost use Rattle.rejudge.specs.Carried.{olderStarts, AllAllowed, notRejudged, Carried};
 use rules::Answer;
+use rules::Faulty;
 use rules::Refusal;
 use rules::Rejudged;
 use rules::Table;
@@ -40,44 +42,52 @@ fn older_starts(older: Table) -> [u64; 32]
     starts
 }
 
-fn not_rejudged(refusal: Refusal) -> Rejudged
-    ensures { λ r. ⌜ r ≡ notRejudged refusal ⌝ }
+// The answers of two accepted tables: each task from its older bound where the newer table is the older one worsened, else fresh.
+pub fn answers_after(older: Table, newer: Table, carried: bool) -> [Answer; 32]
+    requires { ⌜ isAccepted (checkTable older) ≡ true ⌝ }
+    requires { ⌜ isAccepted (checkTable newer) ≡ true ⌝ }
+    requires { ⌜ carried ≡ worsens older newer ⌝ }
+    ensures { λ r. ⌜ r ≡ rejudging older newer .answers ⌝ }
+{
+    if carried {
+        let starts = older_starts(older);
+        return answers(newer, starts);
+    }
+    let fresh = [0u64; 32];
+    answers(newer, fresh)
+}
+
+fn not_rejudged(refusal: Refusal, faulty: Faulty) -> Rejudged
+    ensures { λ r. ⌜ r ≡ notRejudged refusal faulty ⌝ }
 {
     let none = rounds::none_judged(refusal);
     let answers = none.answers;
     Rejudged {
         refusal,
+        faulty,
         carried: false,
         answers,
     }
 }
 
-// The newer table after the older one: each task from its older bound where the newer table is the older one worsened, else fresh.
+// The newer table after the older one, from the older bounds where that is sound; and which of the two is refused.
 pub fn judge_carried(older: Table, newer: Table) -> Rejudged
     ensures { λ r. ⌜ Carried older newer r ⌝ }
 {
     let was = judge::gate(older);
     if was.number != 0 {
-        return not_rejudged(was);
+        return not_rejudged(was, Faulty::Older);
     }
     let is = judge::gate(newer);
     if is.number != 0 {
-        return not_rejudged(is);
+        return not_rejudged(is, Faulty::Newer);
     }
-    if order::worsens(older, newer) {
-        let starts = older_starts(older);
-        let from_bounds = answers(newer, starts);
-        return Rejudged {
-            refusal: is,
-            carried: true,
-            answers: from_bounds,
-        };
-    }
-    let fresh = [0u64; 32];
-    let from_fresh = answers(newer, fresh);
+    let carried = order::worsens(older, newer);
+    let answers = answers_after(older, newer, carried);
     Rejudged {
         refusal: is,
-        carried: false,
-        answers: from_fresh,
+        faulty: Faulty::Neither,
+        carried,
+        answers,
     }
 }

@@ -10,7 +10,7 @@ use Rattle.rejudge.proofs.not_rejudged.Tie as tie
 
 returns : tie.Need-returns
 unfolding notRejudged noneJudged
-returns c = ap (λ (r : AllJudged). record { refusal = c .before .before .args .refusal; carried = false; answers = r .answers }) (c .before .none-judged .ensures)
+returns c = ap (λ (r : AllJudged). record { refusal = c .before .before .args .refusal; faulty = c .before .before .args .faulty; carried = false; answers = r .answers }) (c .before .none-judged .ensures)
 
 pub not-rejudged-spec : {M : Type 1} → statement M
 not-rejudged-spec = tie.close (tie.spec (λ c κs. search needs) returns)

@@ -1,0 +1,17 @@
+-- `board_reason` meets its contract: each arm gives its number's text. Assumes nothing.
+use native.Mathlib.Omega.{arith}
+use borrow.Author.Needs.{needs}
+use Rattle.reasons.specs.Reasons.{documentTexts, reasonText}
+use Rattle.reasons.proofs.Texts.{given-at}
+use Rattle.reasons.proofs.board_reason.Statement.{statement}
+use Rattle.reasons.proofs.board_reason.Tie as tie
+
+pub board-reason-spec : {M : Type 1} → statement M
+unfolding reasonText documentTexts
+board-reason-spec =
+    tie.close
+    (tie.spec (λ c. search needs) (λ c κs. search needs) (λ c. search needs) (λ c κs. search needs) (λ c. search needs) (λ c κs. search needs) (λ c. search needs) (λ c κs. search needs)
+    (λ c. search needs) (λ c. given-at (c .before .before .before .before .before .before .before .args .number) 5 (omega arith) (c .before .before .give .ensures))
+    (λ c. search needs) (λ c. given-at (c .before .before .before .before .before .before .before .args .number) 6 (omega arith) (c .before .before .give2 .ensures))
+    (λ c. search needs) (λ c. given-at (c .before .before .before .before .before .before .before .args .number) 7 (omega arith) (c .before .before .give3 .ensures))
+    (λ c. search needs) (λ c. given-at (c .before .before .before .before .before .before .before .args .number) 8 (omega arith) (c .before .before .give4 .ensures)))

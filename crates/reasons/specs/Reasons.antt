@@ -1,0 +1,37 @@
+-- A short text for each refusal's number. Assumes nothing.
+use mathlib.Core.Bool.{cond}
+use mathlib.Core.List.{List, [], _∷_}
+use Prim.Native.Nat.{ℕ}
+use lib.Dec.{eqb}
+use lib.ListN.{getD}
+use Rattle.laws.specs.Idioms.{text}
+
+-- the numbers of document 01 from 0, which refuses nothing, to 15
+unfoldable pub documentTexts : List (List ℕ)
+documentTexts =
+    text "nothing is refused"
+    ∷ text "the file has under 46 bytes"
+    ∷ text "the file's length is not what its counts say"
+    ∷ text "the file's trailer gives another length"
+    ∷ text "a sum is wrong: the file's bytes were altered"
+    ∷ text "a count is outside its limits, or the fourth byte is not 0"
+    ∷ text "a timing figure is outside its range"
+    ∷ text "the timing figures contradict each other"
+    ∷ text "a core's set of partitions is empty or names one that is not there"
+    ∷ text "a task's core is not one of the table's"
+    ∷ text "a task's period, deadline or execution time is outside its limits"
+    ∷ text "a task's request count is above 1000000"
+    ∷ text "there is no such task"
+    ∷ text "a given start is above its task's deadline"
+    ∷ text "a given start is above what the equation gives there"
+    ∷ text "the output is shorter than the file"
+    ∷ []
+
+-- 255 is the C interface's own; no other number refuses
+unfoldable pub reasonText : ℕ → List ℕ
+reasonText number =
+    cond (eqb number 255) (text "an output is shorter than the tasks") (getD documentTexts number (text "no refusal has this number"))
+
+-- the length of the longest
+abbrev pub longestReason : ℕ
+longestReason = 66
