@@ -8,13 +8,14 @@ use lib.ListN.{length}
 use Rattle.equation.proofs.Solve.{fresh-allowed}
 use Rattle.rules.specs.declared.Table.{Table}
 use Rattle.laws.specs.Idioms.{upTo, entry}
-use Rattle.rules.specs.Judgement.{misses, judge}
+use Rattle.rules.specs.declared.Answer.{Answer}
+use Rattle.rules.specs.Judgement.{misses, judge, boundOf}
 use Rattle.rules.specs.Order.{worsens}
 use Rattle.rules.specs.Chain.{accepted, isAccepted, _orElse_, first}
 use Rattle.rules.specs.Refusals.{checkTable, checkJudged, lateStart, highStart, checkAll}
 use Rattle.rules.specs.Operations.{answersFrom, judgeAll, fresh, freshStarts, olderBound, olderBounds}
 use Rattle.laws.proofs.Runs.{length-map-from}
-use Rattle.laws.proofs.Filled.{only-default, filled-length}
+use Rattle.laws.proofs.Filled.{only-default, filled-length, map-filled}
 use Rattle.laws.proofs.Places.{place-of}
 use Rattle.facts.specs.Starts.{AllAllowed}
 use Rattle.facts.proofs.Accepted.{sound}
@@ -85,6 +86,11 @@ module _ (t : Table) (passed : isAccepted (checkTable t) ≡ true) where
   older-start k low high = place-of 0 (olderBound t) 32 (t .tasks) k low high
 
 -- ---- older bounds
+
+-- they are those of the fresh answers
+pub bounds-of-answers : (t : Table) → map (λ (a : Answer). boundOf (a .verdict)) (answersFrom t fresh) ≡ olderBounds t
+unfolding answersFrom olderBounds olderBound
+bounds-of-answers t = map-filled (λ (a : Answer). boundOf (a .verdict)) (λ k. judge t k 0) 32 (misses 0) (upTo (t .tasks))
 
 module _ (older newer : Table) (was : isAccepted (checkTable older) ≡ true) (is : isAccepted (checkTable newer) ≡ true)
     (worse : worsens older newer ≡ true) where

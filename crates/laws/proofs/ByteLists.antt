@@ -1,14 +1,18 @@
--- Lists of bytes: what is made of them by joining, cutting and one store is bytes again, and k bytes are known by their number.
+-- Lists of bytes: what is known of each place is known of the list, what is made of them by joining, cutting and one store is bytes again, and k bytes are known by their number.
 -- Assumes nothing.
 use mathlib.Core.Path.{_≡_}
 use mathlib.Core.List.{List, [], _∷_, _++_, map}
 use Prim.Native.Nat.{ℕ, zero, suc, _+_, _≤_, _<_}
-use lib.ListN.{length, take, drop, set}
+use lib.ListN.{length, take, drop, getD, set}
 use lib.Seq.{take-add, drop-drop}
 use Rattle.laws.specs.Idioms.{joined, numberIn, bytesOf, part}
 use Rattle.laws.specs.Bytes.{Bytes, none, more}
 use Rattle.laws.proofs.Bytes.{bytes-number}
 use Rattle.laws.proofs.Parts.{part-length}
+
+pub bytes-by-place : (s : List ℕ) → ((i : ℕ) → getD s i 0 < 256) → Bytes s
+bytes-by-place [] byte = none
+bytes-by-place (b ∷ s) byte = more (byte 0) (bytes-by-place s (λ i. byte (suc i)))
 
 pub bytes-append : {l m : List ℕ} → Bytes l → Bytes m → Bytes (l ++ m)
 bytes-append none b = b

@@ -1,10 +1,10 @@
 -- A list's members in n places, with the default in the others. Assumes nothing.
 use mathlib.Core.Path.{_≡_, refl, _∙_}
-use mathlib.Core.List.{List, [], _∷_, _++_, map}
+use mathlib.Core.List.{List, [], _∷_, _++_, map, map-map}
 use Prim.Native.Nat.{ℕ, zero, suc, _+_, _-_, _≤_, _<_}
 use native.Mathlib.Omega.{arith}
 use native.Mathlib.Numerals.{add-one}
-use lib.ListN.{length, length-append, length-replicate, take, getD, set, replicate}
+use lib.ListN.{length, length-append, length-map, length-replicate, take, getD, set, replicate}
 use lib.Seq.{length-take-le, take-at, take-suc, getD-take}
 use Rattle.laws.specs.Idioms.{entry, filled, from}
 use Rattle.laws.proofs.Fill.{fill-step}
@@ -36,3 +36,12 @@ filled-length n d l h = rw (length-append, length-replicate) (omega arith)
 -- what is filled in for m numbers in a row are the first m places
 pub take-filled : {A : Type 0} (n : ℕ) (d : A) (f : ℕ → A) (a m : ℕ) → take m (filled n d (map f (from a m))) ≡ map f (from a m)
 take-filled n d f a m = take-at (map f (from a m)) _ m (length-map-from f m a)
+
+-- a function of every place
+over-replicated : {A B : Type 0} (f : A → B) (d : A) (l : List A) (m : ℕ) → map f (l ++ replicate m d) ≡ map f l ++ replicate m (f d)
+over-replicated f d [] zero = refl
+over-replicated f d [] (suc m) = rw (over-replicated f d [] m)
+over-replicated f d (x ∷ xs) m = rw (over-replicated f d xs m)
+
+pub map-filled : {A B C : Type 0} (f : B → C) (g : A → B) (n : ℕ) (d : B) (l : List A) → map f (filled n d (map g l)) ≡ filled n (f d) (map (λ x. f (g x)) l)
+map-filled f g n d l = over-replicated f d (map g l) (n - length (map g l)) ∙ rw (map-map f g l, length-map l g, length-map l (λ x. f (g x)))

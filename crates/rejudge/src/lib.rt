@@ -5,8 +5,9 @@ ghost use Rattle.laws.specs.Idioms.{entry};
 ghost use Rattle.rules.specs.Chain.{isAccepted};
 ghost use Rattle.rules.specs.Refusals.{checkTable};
 ghost use Rattle.rules.specs.Order.{worsens};
-ghost use Rattle.rules.specs.Operations.{answersFrom, rejudging};
-ghost use Rattle.rejudge.specs.Carried.{olderStarts, AllAllowed, notRejudged, Carried};
+ghost use Rattle.rules.specs.Operations.{answersFrom, rejudging, olderBounds};
+ghost use Rattle.facts.specs.Starts.{AllAllowed};
+ghost use Rattle.rejudge.specs.Carried.{notRejudged, Carried};
 use rules::Answer;
 use rules::Faulty;
 use rules::Refusal;
@@ -27,7 +28,7 @@ fn answers(table: Table, starts: [u64; 32]) -> [Answer; 32]
 // "each task started from its older bound, or 0 where it missed"
 fn older_starts(older: Table) -> [u64; 32]
     requires { ⌜ isAccepted (checkTable older) ≡ true ⌝ }
-    ensures { λ r. ⌜ r ≡ olderStarts older ⌝ }
+    ensures { λ r. ⌜ r ≡ olderBounds older ⌝ }
 {
     let fresh = [0u64; 32];
     let all = answers(older, fresh);

@@ -5,7 +5,7 @@ use Prim.Native.Nat.{ℕ, _<_}
 use lib.ListN.{getD}
 use Rattle.rules.specs.Operations.{reading}
 use Rattle.claims.proofs.Files.{damage}
-use Rattle.mission.proofs.Held.{all-bytes}
+use Rattle.laws.proofs.ByteLists.{bytes-by-place}
 use Rattle.mission.proofs.altered.Statement.{statement}
 use Rattle.mission.proofs.altered.Tie as tie
 
@@ -17,7 +17,7 @@ unfolding reading
 returns-2 c whole inside other =
     let a = c .before .before .before .before .args in
     let byte : (i : ℕ) → getD (a .file .now) i 0 < 256 = λ i. omega (arith, c .before .before .before .slice-known .given i) in
-    rw (c .check2 .ensures) (damage .one-byte (a .file .now) (all-bytes (a .file .now) byte) whole (a .i) (a .b) inside (search needs) other)
+    rw (c .check2 .ensures) (damage .one-byte (a .file .now) (bytes-by-place (a .file .now) byte) whole (a .i) (a .b) inside (search needs) other)
 
 pub altered-spec : {M : Type 1} → statement M
 altered-spec = tie.close (tie.spec (λ c κs. search needs) (λ c. search needs) returns (λ c. search needs) (λ c κs. search needs) (λ c. search needs) returns-2)

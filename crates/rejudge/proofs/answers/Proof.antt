@@ -1,7 +1,7 @@
 -- The answers where no start is refused. Assumes nothing.
 use mathlib.Core.Path.{_∙_, ap}
 use Rattle.rules.specs.declared.AllJudged.{AllJudged}
-use Rattle.rejudge.proofs.Allowed.{allowed-answers}
+use Rattle.facts.proofs.AllStarts.{allowed-answers}
 use Rattle.rejudge.proofs.answers.Statement.{statement}
 use Rattle.rejudge.proofs.answers.Tie as tie
 

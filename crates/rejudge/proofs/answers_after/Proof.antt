@@ -8,7 +8,7 @@ use Rattle.rules.specs.Operations.{answersFrom, fresh}
 use Rattle.facts.proofs.Starts.{accepted-judged}
 use Rattle.facts.proofs.LentStarts.{answers-same}
 use Rattle.rejudge.proofs.Again.{answers-carried, answers-fresh}
-use Rattle.rejudge.proofs.Allowed.{all-fresh, all-carried, carried-answers, fresh-starts}
+use Rattle.facts.proofs.AllStarts.{all-fresh, all-carried, carried-answers, fresh-starts}
 use Rattle.rejudge.proofs.answers_after.Statement.{statement}
 use Rattle.rejudge.proofs.answers_after.Tie as tie
 

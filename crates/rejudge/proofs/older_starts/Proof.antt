@@ -5,17 +5,17 @@ use Prim.Native.Nat.{_≤_, _-_}
 use native.Mathlib.Omega.{arith}
 use lib.ListN.{length}
 use lib.Seq.{take-all}
-use Rattle.rules.specs.Judgement.{misses}
+use Rattle.rules.specs.declared.Answer.{Answer}
+use Rattle.rules.specs.Judgement.{misses, boundOf}
 use Rattle.rules.specs.Operations.{answersFrom, fresh}
 use Rattle.judge.proofs.Column.{Column, column-none, column-next}
-use Rattle.rejudge.specs.Carried.{startOf, olderStarts}
-use Rattle.rejudge.proofs.Allowed.{all-fresh, answers-long, fresh-starts}
+use Rattle.facts.proofs.AllStarts.{all-fresh, answers-long, fresh-starts, bounds-of-answers}
 use Rattle.facts.proofs.LentStarts.{answers-same}
 use Rattle.rejudge.proofs.older_starts.Statement.{statement}
 use Rattle.rejudge.proofs.older_starts.Tie as tie
 
 abbrev Inv-loop : tie.InvT-loop
-Inv-loop all starts₀ i₀ starts i = (i ≤ 32) × Column startOf all 32 i starts
+Inv-loop all starts₀ i₀ starts i = (i ≤ 32) × Column (λ (a : Answer). boundOf (a .verdict)) all 32 i starts
 
 abbrev μ-loop : tie.MeasureT-loop
 μ-loop all starts₀ i₀ starts i = 32 - i
@@ -36,13 +36,12 @@ loop-again c =
     (search needs, rw (c .bound-of .ensures) (column-next (misses 0) (turn .loop .inv .1) (omega arith) (omega arith)))
 
 returns : tie.Need-returns Inv-loop μ-loop
-unfolding olderStarts
 returns c =
     let l = c .before .loop in
     let a = c .before .before in
     let e : l .i ≡ 32 = omega arith in
     let h = rw e at (l .inv .1 .is) in
-    rw (← all-answers a) (rw (take-all 32 (l .starts) (omega (arith, l .inv .1 .long)), take-all 32 (a .answers .result) (omega (arith, all-long a))) at h)
+    rw (← bounds-of-answers (a .before .args .older), ← all-answers a) (rw (take-all 32 (l .starts) (omega (arith, l .inv .1 .long)), take-all 32 (a .answers .result) (omega (arith, all-long a))) at h)
 
 pub older-starts-spec : {M : Type 1} → statement M
 older-starts-spec =
