@@ -11,6 +11,7 @@ ghost use Rattle.claims.specs.Point3.{NewerWorse};
 ghost use Rattle.mission.specs.Written.{WrittenBack};
 ghost use Rattle.mission.specs.Judged.{JudgedRight, CarriedRight};
 use rules::AllJudged;
+use rules::Picos;
 use rules::Read;
 use rules::Refusal;
 use rules::Rejudged;
@@ -60,7 +61,7 @@ pub fn read_then_written(file: &[u8], out: &mut [u8]) -> usize
 pub fn judged_fresh(t: Table) -> AllJudged
     ensures { λ r. ⌜ (AcceptedTable t → JudgedRight t r) ⌝ }
 {
-    judge::judge_all(t, [0u64; 32])
+    judge::judge_all(t, [Picos(0); 32])
 }
 
 // "each task started from its older bound, or 0 where it missed: verdict and bound are point 2's for the newer table; the rounds are the
