@@ -146,6 +146,7 @@ pub point-two : PointTwo
 point-two = record {
   one-fresh = λ t k task. one-passed t k 0 (fresh-judgeable t k task);
   all-fresh = all-passed;
+  bound = λ t k task. one-right t k task .holds;
   one = one-right;
   all = λ t k task. rw (fresh-answer t k task) (one-right t k task);
   one-from = λ t k start passed. let j = one-open t k start passed in rw (one-answered t k start j) (right-from t k start j);

@@ -17,7 +17,7 @@ use Rattle.rules.specs.Units.{ps}
 use Rattle.rules.specs.Tasks.{latest, taskOf, coreOf, higher}
 use Rattle.rules.specs.Board.{memoryOf}
 use Rattle.rules.specs.Response.{F, request, job}
-use Rattle.rules.specs.Judgement.{misses, startOf}
+use Rattle.rules.specs.Judgement.{misses, startOf, IsBound}
 use Rattle.rules.specs.Chain.{accepted, isAccepted}
 use Rattle.rules.specs.Operations.{judgeOne, judgeAll, freshStarts}
 use Rattle.claims.specs.Files.{AcceptedTable}
@@ -52,6 +52,9 @@ pub record PointTwo : Type 0 where
   -- a fresh start is never refused
   pub one-fresh : (t : Table) (k : ℕ) → AcceptedTask t k → judgeOne t k 0 .refusal ≡ accepted
   pub all-fresh : (t : Table) → AcceptedTable t → judgeAll t freshStarts .refusal ≡ accepted
+  -- it holds with the bound that the rules name
+  pub bound : (t : Table) (k : ℕ) → AcceptedTask t k → (R : ℕ)
+      → ((by : Delay) × (judgeOne t k 0 .answer .verdict ≡ Holds (ps R) by)) ↔ IsBound t k R
   pub one : (t : Table) (k : ℕ) → AcceptedTask t k → Right t k 1 (judgeOne t k 0 .answer .verdict)
   pub all : (t : Table) (k : ℕ) → AcceptedTask t k → Right t k 1 (answerTo k (judgeAll t freshStarts .answers) .verdict)
   -- "With a given start the answer is the least R at or above the start, up to D, with R = F(R)."

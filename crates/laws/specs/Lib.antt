@@ -1,7 +1,7 @@
--- The forms that the rules are written in; they know nothing of the document.
+-- The forms that the rules and the claims are written in; they know nothing of the document. All three are to be read before the rules and believed.
 --     Idioms   sums over lists, members that pass a test, places, quotients, differences, little-endian numbers
---     Bytes    lists of bytes
 --     Decimal  decimal digits
+--     Bytes    lists of bytes, which the claims speak of
 pub mod Idioms
 pub mod Bytes
 pub mod Decimal
