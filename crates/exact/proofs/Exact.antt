@@ -29,6 +29,7 @@ promises = record {
   view = λ s k. only-one _;
   view-refusal = λ s k. only-one _;
   write = λ t out a b p q. both (p .answered ∙ sym (q .answered)) (p .stored ∙ sym (q .stored));
+  front = λ input n. only-one _;
   check-tasks = λ t. only-one _;
   check-board = λ t. only-one _;
   check = λ t. only-one _;

@@ -3,6 +3,7 @@ use Prim.Native.Nat.{ℕ}
 use mathlib.Core.Path.{_≡_}
 use mathlib.Core.Bool.{Bool}
 use mathlib.Core.List.{List}
+use lib.ListN.{take}
 use Rattle.rules.specs.declared.Table.{Table}
 use Rattle.rules.specs.declared.Picos.{Picos}
 use Rattle.rules.specs.declared.Refusal.{Refusal}
@@ -37,6 +38,8 @@ pub record Promises : Type 0 where
   pub view : (s : List ℕ) (k : ℕ) → Exact (λ (part : List ℕ). part ≡ viewing s k)
   pub view-refusal : (s : List ℕ) (k : ℕ) → Exact (λ (r : Refusal). r ≡ checkView s k)
   pub write : (t : Table) (out : List ℕ) → Exact (λ (r : Written × List ℕ). Wrote t out (r .0) (r .1))
+  -- input
+  pub front : (input : List ℕ) (n : ℕ) → Exact (λ (part : List ℕ). part ≡ take n input)
   -- tasks
   pub check-tasks : (t : Table) → Exact (λ (r : Refusal). r ≡ checkTasks t)
   -- checks

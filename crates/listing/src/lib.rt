@@ -30,7 +30,7 @@ fn put_table(buf: &mut [u8], t: Table, answers: [Answer; 32]) -> usize
     put_last(buf, end, first_miss(n, answers))
 }
 
-// The lines of a table that was accepted, whole, and their length; where they do not fit, nothing, and 0.
+// The lines of a table that was accepted, as `lines` gives them.
 fn accepted_lines(t: Table, answers: [Answer; 32], out: &mut [u8]) -> usize
     requires { ⌜ isAccepted (checkTable t) ≡ true ⌝ }
     ensures { λ r. ⌜ Given (tableLines t answers) (now (out .entry)) r (now (out .exit)) ⌝ }
@@ -41,17 +41,8 @@ fn accepted_lines(t: Table, answers: [Answer; 32], out: &mut [u8]) -> usize
     give(&made[..n], out)
 }
 
-// "A refusal is the only line": likewise.
-pub fn refused(number: u8, out: &mut [u8]) -> usize
-    ensures { λ r. ⌜ Given (refusedLine number) (now (out .entry)) r (now (out .exit)) ⌝ }
-    ensures { λ _. ⌜ length (refusedLine number) ≤ 29 ⌝ }
-{
-    let mut made = [0u8; 29];
-    let n = put_phrase(&mut made, 0, b"refused ", number as u64, b'\n');
-    give(&made[..n], out)
-}
-
-// The lines of a table with its answers, or the line of its refusal: likewise. A buffer of 3266 bytes has room for any.
+// The lines of a table with its answers, or the line of its refusal, whole, and their length; where they do not fit, nothing, and 0.
+// A buffer of 3266 bytes has room for any.
 pub fn lines(t: Table, answers: [Answer; 32], out: &mut [u8]) -> usize
     ensures { λ r. ⌜ Given (tableText t answers) (now (out .entry)) r (now (out .exit)) ⌝ }
     ensures { λ _. ⌜ length (tableText t answers) ≤ 3266 ⌝ }
@@ -61,6 +52,16 @@ pub fn lines(t: Table, answers: [Answer; 32], out: &mut [u8]) -> usize
         return refused(refusal.number, out);
     }
     accepted_lines(t, answers, out)
+}
+
+// "A refusal is the only line": likewise.
+pub fn refused(number: u8, out: &mut [u8]) -> usize
+    ensures { λ r. ⌜ Given (refusedLine number) (now (out .entry)) r (now (out .exit)) ⌝ }
+    ensures { λ _. ⌜ length (refusedLine number) ≤ 29 ⌝ }
+{
+    let mut made = [0u8; 29];
+    let n = put_phrase(&mut made, 0, b"refused ", number as u64, b'\n');
+    give(&made[..n], out)
 }
 
 // A table that was read, judged from nothing. It is not checked again.

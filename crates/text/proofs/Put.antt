@@ -1,6 +1,5 @@
 -- Texts that are put one after the other are one text; and what a loop that stores a text byte by byte has still to store. Assumes nothing.
 use mathlib.Core.Path.{_≡_, refl, _∙_}
-use mathlib.Core.Bool.{Bool, true, false, cond}
 use mathlib.Core.List.{List, [], _∷_, _++_}
 use Prim.Native.Nat.{ℕ, suc, _+_, _<_, _≤_}
 use native.Mathlib.Omega.{arith}
@@ -8,8 +7,7 @@ use native.Mathlib.Nat.{add-zero, zero-add}
 use native.Mathlib.Numerals.{add-one}
 use lib.ListN.{length, getD, take, drop, set, length-append, drop-of-length-le}
 use lib.Seq.{sets, sets-eq, drop-cons, take-append-seam}
-use lib.Dec.{leb}
-use borrow.Author.Tests.{le-leb, lt-leb, leb-true}
+use borrow.Author.Tests.{le-leb, lt-leb}
 use Rattle.text.specs.Put.{Put, Given}
 
 sets-append : (l : List ℕ) (at : ℕ) (v w : List ℕ) → sets (sets l at v) (at + length v) w ≡ sets l at (v ++ w)
@@ -61,11 +59,3 @@ module _ (text out : List ℕ) where
     length-is = rw (le-leb (length text) (length out) h) (front-length p);
     bytes-are = rw (le-leb (length text) (length out) h) (p .bytes ∙ sets-eq text out 0 (omega arith) ∙ rw zero-add);
   }
-
-  -- for who lends the buffer: the part that was given is within it
-  pub given-inside : {made : ℕ} {after : List ℕ} → Given text out made after → made ≤ length out
-  given-inside {made} g = go (leb (length text) (length out)) refl (g .length-is)
-    where
-      go : (b : Bool) → leb (length text) (length out) ≡ b → made ≡ cond b (length text) 0 → made ≤ length out
-      go true e q = omega (arith, leb-true (length text) (length out) e)
-      go false e q = omega arith
