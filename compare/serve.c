@@ -3,19 +3,19 @@
  * answered and left in the buffers to standard output. The archive of `rt staticlib` is for x86-64; on an Arm machine this
  * program is compiled for x86-64 and run by an emulator.
  *
- * A call is a struct head, then its file, starts, bounds, rounds and bytes. An answer is the result in 8 bytes, then the
+ * A call is a struct head, then its file, newer file, starts, bounds, rounds and bytes. An answer is the result in 8 bytes, then the
  * bounds, rounds and bytes. Each of these three may be longer than what the call lends of it, to show a write behind it.
  */
 #include "ryeobadum.h"
 
 struct head {
-    uint64_t letter, task, file_n, starts_n;
+    uint64_t letter, number, file_n, newer_n, starts_n;
     uint64_t bounds_lent, bounds_n, rounds_lent, rounds_n, bytes_lent, bytes_n;
 };
 
 enum { FILE_ROOM = 1 << 16, PLACES = 256, BYTES_ROOM = 1 << 16 };
 
-static uint8_t file[FILE_ROOM];
+static uint8_t file[FILE_ROOM], newer[FILE_ROOM];
 static uint64_t starts[PLACES], bounds[PLACES], rounds[PLACES];
 static uint8_t bytes[BYTES_ROOM];
 
@@ -89,10 +89,12 @@ static void put_all(const void *from, size_t n)
 
 static uint64_t make(const struct head *h)
 {
-    const uint8_t *f = LENT(file, h->file_n);
+    const uint8_t *f = LENT(file, h->file_n), *g = LENT(newer, h->newer_n);
     switch (h->letter) {
     case 'r':
         return ryb_read(f, h->file_n);
+    case 't':
+        return ryb_tasks(f, h->file_n);
     case 'j':
         return ryb_judge(f, h->file_n, LENT(starts, h->starts_n), h->starts_n, LENT(bounds, h->bounds_lent),
                          h->bounds_lent, LENT(rounds, h->rounds_lent), h->rounds_lent, LENT(bytes, h->bytes_lent),
@@ -100,7 +102,16 @@ static uint64_t make(const struct head *h)
     case 'l':
         return ryb_list(f, h->file_n, LENT(bytes, h->bytes_lent), h->bytes_lent);
     case 'v':
-        return ryb_record(f, h->file_n, (uint8_t)h->task);
+        return ryb_view(f, h->file_n, (uint8_t)h->number);
+    case 'o':
+        return ryb_record(f, h->file_n, (uint8_t)h->number);
+    case 'c':
+        return ryb_carry(f, h->file_n, g, h->newer_n, LENT(bounds, h->bounds_lent), h->bounds_lent,
+                         LENT(rounds, h->rounds_lent), h->rounds_lent, LENT(bytes, h->bytes_lent), h->bytes_lent);
+    case 'w':
+        return ryb_worsens(f, h->file_n, g, h->newer_n);
+    case 'm':
+        return ryb_reason((uint8_t)h->number, LENT(bytes, h->bytes_lent), h->bytes_lent);
     }
     leave(2);
     return 0;
@@ -108,9 +119,9 @@ static uint64_t make(const struct head *h)
 
 static int fits(const struct head *h)
 {
-    return h->file_n <= FILE_ROOM && h->starts_n <= PLACES && h->bounds_n <= PLACES && h->rounds_n <= PLACES &&
-           h->bytes_n <= BYTES_ROOM && h->bounds_lent <= h->bounds_n && h->rounds_lent <= h->rounds_n &&
-           h->bytes_lent <= h->bytes_n;
+    return h->file_n <= FILE_ROOM && h->newer_n <= FILE_ROOM && h->starts_n <= PLACES && h->bounds_n <= PLACES &&
+           h->rounds_n <= PLACES && h->bytes_n <= BYTES_ROOM && h->bounds_lent <= h->bounds_n &&
+           h->rounds_lent <= h->rounds_n && h->bytes_lent <= h->bytes_n;
 }
 
 START
@@ -121,6 +132,7 @@ START
         if (!fits(&h))
             leave(2);
         get_all(file, h.file_n, 2);
+        get_all(newer, h.newer_n, 2);
         get_all(starts, 8 * h.starts_n, 2);
         get_all(bounds, 8 * h.bounds_n, 2);
         get_all(rounds, 8 * h.rounds_n, 2);

@@ -1,13 +1,22 @@
-//! The own reading's answers in the form of the four C functions (`include/ryeobadum.h`).
+//! The own reading's answers in the form of the C functions (`include/ryeobadum.h`).
 
+use crate::carry;
 use crate::file::{self, record_at};
 use crate::judge::{Answer, By, Judge, Verdict};
 use crate::listing::listing;
 use crate::refusal::Refusal;
 
+/// The number of an output that is too short for the tasks, which document 01 doesn't have.
+pub const SHORT_OUTPUT: u8 = 255;
+
 /// `ryb_read`.
 pub fn read(bytes: &[u8]) -> u16 {
     code(file::read(bytes).map(|_| ()))
+}
+
+/// `ryb_tasks`.
+pub fn tasks(bytes: &[u8]) -> usize {
+    file::read(bytes).map_or(0, |table| table.tasks().len())
 }
 
 /// `ryb_judge`.
@@ -27,11 +36,39 @@ pub fn list(bytes: &[u8], out: &mut [u8]) -> usize {
     }
 }
 
+/// `ryb_view`.
+pub fn view(bytes: &[u8], number: u8) -> u16 {
+    code(file::view(bytes, number).map(|_| ()))
+}
+
 /// `ryb_record`.
 pub fn record(bytes: &[u8], number: u8) -> usize {
     match file::view(bytes, number) {
         Ok(_) => record_at(usize::from(bytes[0]), usize::from(number)),
         Err(_) => 0,
+    }
+}
+
+/// `ryb_carry`: a refusal with 65536 times the file that it is about, 1 the older and 2 the newer.
+pub fn carry(older: &[u8], newer: &[u8], bounds: &mut [u64], rounds: &mut [u64], by: &mut [u8]) -> u32 {
+    let refused = |refusal: Refusal, file: u32| u32::from(refusal.code()) + 65536 * file;
+    let was = match file::read(older) {
+        Ok(table) => table,
+        Err(refusal) => return refused(refusal, 1),
+    };
+    let is = match file::read(newer) {
+        Ok(table) => table,
+        Err(refusal) => return refused(refusal, 2),
+    };
+    let answers = carry::answers(&was, &is);
+    store(&answers[..is.tasks().len()], bounds, rounds, by).err().map_or(0, |refusal| refused(refusal, 0))
+}
+
+/// `ryb_worsens`.
+pub fn worsens(older: &[u8], newer: &[u8]) -> u8 {
+    match (file::read(older), file::read(newer)) {
+        (Ok(was), Ok(is)) => carry::worsens(&was, &is).into(),
+        _ => 0,
     }
 }
 
@@ -48,14 +85,21 @@ fn try_judge(
 ) -> Result<(), Refusal> {
     let table = file::read(bytes)?;
     let answers = Judge::of_accepted(&table).all(starts)?;
-    let answers = &answers[..table.tasks().len()];
+    store(&answers[..table.tasks().len()], bounds, rounds, by)
+}
+
+/// The answers in the outputs, unless one is too short for them.
+fn store(answers: &[Answer], bounds: &mut [u64], rounds: &mut [u64], by: &mut [u8]) -> Result<(), Refusal> {
+    if [bounds.len(), rounds.len(), by.len()].iter().any(|&places| places < answers.len()) {
+        return Err(Refusal::plain(SHORT_OUTPUT));
+    }
     fill(bounds, answers, bound);
     fill(rounds, answers, |answer| answer.rounds);
     fill(by, answers, decided);
     Ok(())
 }
 
-/// Each answer's figure in its place, as far as both reach.
+/// Each answer's figure in its place.
 fn fill<T>(out: &mut [T], answers: &[Answer], figure: impl Fn(&Answer) -> T) {
     for (place, answer) in out.iter_mut().zip(answers) {
         *place = figure(answer);

@@ -9,6 +9,7 @@ use compare_model::table::{
 };
 
 use crate::comparer::{Comparer, Difference, Reaches};
+use crate::pairs;
 
 type Outcome = Result<(), Difference>;
 
@@ -38,6 +39,7 @@ pub fn all(on: &mut Comparer, seed: u64, count: u64) -> Outcome {
     sums(on)?;
     examples(on)?;
     wide_totals(on, &mut rng)?;
+    pairs::reasons(on)?;
     for case in 0..count {
         random(on, &mut rng, case)?;
     }
@@ -47,9 +49,17 @@ pub fn all(on: &mut Comparer, seed: u64, count: u64) -> Outcome {
 /// Every call on a file, in the plainest way.
 fn calls(on: &mut Comparer, file: &[u8]) -> Outcome {
     on.read(file)?;
+    on.tasks(file)?;
     on.judge(file, &[], Reaches::all(TASKS))?;
+    on.judge(file, &[], Reaches::all(0))?;
     on.list(file, 4096)?;
-    on.record(file, 1)?;
+    view(on, file, 1)
+}
+
+/// What is said of a task's record, and where it is.
+fn view(on: &mut Comparer, file: &[u8], number: u8) -> Outcome {
+    on.view(file, number)?;
+    on.record(file, number)?;
     Ok(())
 }
 
@@ -316,11 +326,19 @@ fn examples(on: &mut Comparer) -> Outcome {
             }
         }
     }
+    for (older, newer) in [(&listed, &raised), (&raised, &listed), (&listed, &tight), (&listed, &two_solutions)] {
+        pairs::calls(on, &older.file(), &newer.file())?;
+    }
     for start in
         [0, 1, 9 * second, 11_007_499_999, 11_007_500_000, 11_007_500_001, 20 * second, 20 * second + 1, u64::MAX]
     {
         on.judge(&listed.file(), &[0, 0, start], Reaches::all(TASKS))?;
         on.judge(&raised.file(), &[0, 0, start], Reaches::all(TASKS))?;
+        for places in 0..=4 {
+            on.judge(&listed.file(), &[0, 0, start], Reaches { bounds: places, ..Reaches::all(3) })?;
+            on.judge(&listed.file(), &[0, 0, start], Reaches { rounds: places, ..Reaches::all(3) })?;
+            on.judge(&listed.file(), &[0, 0, start], Reaches { by: places, ..Reaches::all(3) })?;
+        }
     }
     for start in
         [0, 9 * second, 9 * second + 1, 12 * second, 15 * second, 15 * second + 1, 20 * second, 20 * second + 1]
@@ -353,6 +371,8 @@ fn random(on: &mut Comparer, rng: &mut Rng, case: u64) -> Outcome {
     for _ in 0..4 {
         calls(on, &faulty(rng, &draft).file())?;
     }
+    let faulty = faulty(rng, &draft);
+    pairs::random(on, rng, &draft, &faulty)?;
     match case % 16 {
         0 => cuts(on, &file),
         1 => records(on, &file),
@@ -375,7 +395,7 @@ fn whole(on: &mut Comparer, rng: &mut Rng, file: &[u8]) -> Outcome {
         on.list(file, room)?;
     }
     for number in [0, table.tasks, table.tasks + 1, rng.word() as u8] {
-        on.record(file, number)?;
+        view(on, file, number)?;
     }
     Ok(())
 }
@@ -384,9 +404,15 @@ fn fresh(table: &Table) -> [Answer; TASKS] {
     Judge::of_accepted(table).all(&[]).expect("a fresh judgement is never refused")
 }
 
+/// Outputs that reach as far as the tasks or further; now and then one of them is too short.
 fn reaches(rng: &mut Rng, tasks: usize) -> Reaches {
-    let mut reach = || rng.pick(&[0, 1, tasks - 1, tasks, tasks, tasks + 1, TASKS, TASKS + 1, 40]);
-    Reaches { bounds: reach(), rounds: reach(), by: reach() }
+    let mut reach = || rng.pick(&[tasks, tasks, tasks + 1, TASKS, TASKS + 1, 40]);
+    let mut reaches = Reaches { bounds: reach(), rounds: reach(), by: reach() };
+    if rng.once_in(4) {
+        let short = [&mut reaches.bounds, &mut reaches.rounds, &mut reaches.by].into_iter().nth(rng.index(3));
+        *short.expect("there are three") = rng.pick(&[0, 1, tasks - 1]);
+    }
+    reaches
 }
 
 /// Cut at every length: as it is, and with a new trailer. Then with bytes after it.
@@ -409,7 +435,7 @@ fn cuts(on: &mut Comparer, file: &[u8]) -> Outcome {
 
 /// The records of every task number.
 fn records(on: &mut Comparer, file: &[u8]) -> Outcome {
-    (0..=u8::MAX).try_for_each(|number| on.record(file, number).map(|_| ()))
+    (0..=u8::MAX).try_for_each(|number| view(on, file, number))
 }
 
 /// One byte altered: as it is, and with a trailer that fits it.

@@ -1,5 +1,6 @@
 //! Makes each call on the library and on the own reading, and compares all that they answer and leave behind.
 
+use std::collections::BTreeMap;
 use std::fmt;
 use std::io;
 
@@ -34,14 +35,18 @@ pub struct Difference {
     own: String,
 }
 
+impl Difference {
+    /// One that no file is part of.
+    pub fn of(call: String, library: String, own: String) -> Difference {
+        Difference { call, file: Vec::new(), library, own }
+    }
+}
+
 impl fmt::Display for Difference {
     fn fmt(&self, f: &mut fmt::Formatter) -> fmt::Result {
         writeln!(f, "DIFFERENCE in {}", self.call)?;
-        write!(f, "file: ")?;
-        for byte in &self.file {
-            write!(f, "{byte:02x}")?;
-        }
-        writeln!(f, "\nlibrary: {}", self.library)?;
+        writeln!(f, "file: {}", hexadecimal(&self.file))?;
+        writeln!(f, "library: {}", self.library)?;
         write!(f, "own:     {}", self.own)
     }
 }
@@ -51,7 +56,7 @@ impl fmt::Display for Difference {
 pub struct Tally {
     pub calls: u64,
     pub accepted: u64,
-    pub refused: [u64; 16],
+    pub refused: BTreeMap<u16, u64>,
     pub by_request: u64,
     pub by_job: u64,
     pub misses: u64,
@@ -59,12 +64,14 @@ pub struct Tally {
     pub records: u64,
     pub listings: u64,
     pub too_short: u64,
+    pub pairs: u64,
+    pub worsened: u64,
 }
 
 /// What a judgement answers and leaves in its outputs.
 #[derive(Clone, Debug, PartialEq, Eq)]
 struct Judged {
-    code: u16,
+    code: u32,
     bounds: Vec<u64>,
     rounds: Vec<u64>,
     by: Vec<u8>,
@@ -96,41 +103,44 @@ impl Comparer {
         same(theirs, own, file, || "ryb_read".to_owned())
     }
 
+    /// `ryb_tasks`; answers the count, 0 where refused.
+    pub fn tasks(&mut self, file: &[u8]) -> Result<usize, Difference> {
+        let own = answers::tasks(file);
+        let theirs = self.library.tasks(file);
+        self.tally.calls += 1;
+        same(theirs, own, file, || "ryb_tasks".to_owned())
+    }
+
     /// `ryb_judge`; answers the refusal, 0 where accepted.
     pub fn judge(&mut self, file: &[u8], starts: &[u64], reaches: Reaches) -> Result<u16, Difference> {
-        let blank = Judged {
-            code: 0,
-            bounds: self.filled(reaches.bounds),
-            rounds: self.filled(reaches.rounds),
-            by: self.filled(reaches.by).iter().map(|&word| word as u8).collect(),
-        };
+        let blank = self.blank(reaches);
         let mut own = blank.clone();
-        own.code = answers::judge(
+        let code = answers::judge(
             file,
             starts,
             &mut own.bounds[..reaches.bounds],
             &mut own.rounds[..reaches.rounds],
             &mut own.by[..reaches.by],
         );
+        own.code = code.into();
         let mut theirs = blank;
-        let code = self.library.judge(
+        let answered = self.library.judge(
             file,
             starts,
             Lent::new(&mut theirs.bounds, reaches.bounds),
             Lent::new(&mut theirs.rounds, reaches.rounds),
             Lent::new(&mut theirs.by, reaches.by),
         );
-        let theirs = code.map(|code| Judged { code, ..theirs });
-        self.count(own.code);
-        self.count_answers(file, &own, reaches);
-        let code = own.code;
+        let theirs = answered.map(|code| Judged { code: code.into(), ..theirs });
+        self.count(code);
+        self.count_answers(file, &own);
         same(theirs, own, file, || format!("ryb_judge from {starts:?} into {reaches:?}"))?;
         Ok(code)
     }
 
     /// `ryb_list` into `room` bytes; answers the length.
     pub fn list(&mut self, file: &[u8], room: usize) -> Result<usize, Difference> {
-        let out: Vec<u8> = self.filled(room).iter().map(|&word| word as u8).collect();
+        let out = self.filled_bytes(room);
         let mut own = Listed { length: 0, out: out.clone() };
         own.length = answers::list(file, &mut own.out[..room]);
         let mut theirs = Listed { length: 0, out };
@@ -144,6 +154,14 @@ impl Comparer {
         Ok(length)
     }
 
+    /// `ryb_view`; answers the refusal, 0 where there is such a record.
+    pub fn view(&mut self, file: &[u8], number: u8) -> Result<u16, Difference> {
+        let own = answers::view(file, number);
+        let theirs = self.library.view(file, number);
+        self.count(own);
+        same(theirs, own, file, || format!("ryb_view of task {number}"))
+    }
+
     /// `ryb_record`; answers the offset, 0 where refused.
     pub fn record(&mut self, file: &[u8], number: u8) -> Result<usize, Difference> {
         let own = answers::record(file, number);
@@ -151,6 +169,99 @@ impl Comparer {
         self.tally.calls += 1;
         self.tally.records += u64::from(own > 0);
         same(theirs, own, file, || format!("ryb_record of task {number}"))
+    }
+
+    /// `ryb_carry`; answers the refusal with the file that it is about, 0 where accepted.
+    pub fn carry(&mut self, older: &[u8], newer: &[u8], reaches: Reaches) -> Result<u32, Difference> {
+        let blank = self.blank(reaches);
+        let mut own = blank.clone();
+        own.code = answers::carry(
+            older,
+            newer,
+            &mut own.bounds[..reaches.bounds],
+            &mut own.rounds[..reaches.rounds],
+            &mut own.by[..reaches.by],
+        );
+        let mut theirs = blank;
+        let answered = self.library.carry(
+            older,
+            newer,
+            Lent::new(&mut theirs.bounds, reaches.bounds),
+            Lent::new(&mut theirs.rounds, reaches.rounds),
+            Lent::new(&mut theirs.by, reaches.by),
+        );
+        let theirs = answered.map(|code| Judged { code, ..theirs });
+        self.count(own.code as u16);
+        self.count_answers(newer, &own);
+        let code = own.code;
+        same(theirs, own, newer, || format!("ryb_carry into {reaches:?} after {}", hexadecimal(older)))?;
+        Ok(code)
+    }
+
+    /// `ryb_worsens`; answers 1 where both files are accepted and the newer is the older one worsened.
+    pub fn worsens(&mut self, older: &[u8], newer: &[u8]) -> Result<u8, Difference> {
+        let own = answers::worsens(older, newer);
+        let theirs = self.library.worsens(older, newer);
+        self.tally.calls += 1;
+        self.tally.pairs += 1;
+        self.tally.worsened += u64::from(own);
+        same(theirs, own, newer, || format!("ryb_worsens after {}", hexadecimal(older)))
+    }
+
+    /// `ryb_reason`, whose words are the library's own: a text of some printable bytes, which fits its own length and no less. Answers it.
+    pub fn reason(&mut self, number: u8) -> Result<Vec<u8>, Difference> {
+        let long = self.reason_into(number, 200)?;
+        let text = long.out.get(..long.length).unwrap_or_default().to_vec();
+        if text.is_empty() || !text.iter().all(|byte| (b' '..=b'~').contains(byte)) {
+            return Err(Difference::of(
+                format!("ryb_reason of {number}"),
+                format!("{long:?}"),
+                "some printable text".to_owned(),
+            ));
+        }
+        for room in [0, text.len() - 1, text.len(), text.len() + 1] {
+            self.expect_reason(number, &text, room)?;
+        }
+        Ok(text)
+    }
+
+    fn reason_into(&mut self, number: u8, room: usize) -> Result<Listed, Difference> {
+        let mut out = self.filled_bytes(room);
+        let length = self.library.reason(number, Lent::new(&mut out, room));
+        self.tally.calls += 1;
+        let failed = |error| {
+            Difference::of(format!("ryb_reason of {number}"), format!("gave no answer: {error}"), String::new())
+        };
+        length.map(|length| Listed { length, out }).map_err(failed)
+    }
+
+    /// The text whole, or nothing where the room is too short for it; the bytes behind it as they were.
+    fn expect_reason(&mut self, number: u8, text: &[u8], room: usize) -> Result<(), Difference> {
+        let blank = self.filled_bytes(room);
+        let mut own = Listed { length: 0, out: blank.clone() };
+        if text.len() <= room {
+            own.length = text.len();
+            own.out[..text.len()].copy_from_slice(text);
+        }
+        let mut theirs = Listed { length: 0, out: blank };
+        let length = self.library.reason(number, Lent::new(&mut theirs.out, room));
+        let theirs = length.map(|length| Listed { length, ..theirs });
+        self.tally.calls += 1;
+        same(theirs, own, &[], || format!("ryb_reason of {number} into {room} bytes"))?;
+        Ok(())
+    }
+
+    fn blank(&mut self, reaches: Reaches) -> Judged {
+        Judged {
+            code: 0,
+            bounds: self.filled(reaches.bounds),
+            rounds: self.filled(reaches.rounds),
+            by: self.filled_bytes(reaches.by),
+        }
+    }
+
+    fn filled_bytes(&mut self, reach: usize) -> Vec<u8> {
+        self.filled(reach).iter().map(|&word| word as u8).collect()
     }
 
     /// Words that no answer is likely to be, also behind the lent places.
@@ -162,25 +273,29 @@ impl Comparer {
         self.tally.calls += 1;
         match code % 256 {
             0 => self.tally.accepted += 1,
-            number => self.tally.refused[usize::from(number)] += 1,
+            number => *self.tally.refused.entry(number).or_default() += 1,
         }
     }
 
-    fn count_answers(&mut self, file: &[u8], judged: &Judged, reaches: Reaches) {
+    fn count_answers(&mut self, file: &[u8], judged: &Judged) {
         if judged.code != 0 {
             return;
         }
         let tasks = usize::from(file[2]);
-        for &by in &judged.by[..reaches.by.min(tasks)] {
+        for &by in &judged.by[..tasks] {
             match by {
                 0 => self.tally.misses += 1,
                 1 => self.tally.by_request += 1,
                 _ => self.tally.by_job += 1,
             }
         }
-        let most = judged.rounds[..reaches.rounds.min(tasks)].iter().copied().max().unwrap_or(0);
+        let most = judged.rounds[..tasks].iter().copied().max().unwrap_or(0);
         self.tally.most_rounds = self.tally.most_rounds.max(most);
     }
+}
+
+fn hexadecimal(bytes: &[u8]) -> String {
+    bytes.iter().map(|byte| format!("{byte:02x}")).collect()
 }
 
 /// The answer, where both gave it.

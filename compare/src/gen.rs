@@ -198,6 +198,25 @@ fn busy_requests(rng: &mut Rng, room: u64) -> u32 {
     requests.min(highest) as u32
 }
 
+/// The table with execution times and request counts as they were or raised, and periods as they were or shortened; accepted like it.
+pub fn worsened(rng: &mut Rng, draft: &Draft) -> Draft {
+    let mut worse = draft.clone();
+    let one_in = rng.pick(&[1, 2, 8, 64]);
+    for task in worse.tasks.iter_mut() {
+        if rng.once_in(one_in) {
+            let spare = rng.pick(&[0, task.c / 10, task.d - task.c]);
+            task.c += rng.between(0, spare.min(task.d - task.c));
+        }
+        if rng.once_in(one_in) {
+            task.h += rng.any_size(0, (H_HIGHEST - task.h).into()) as u32;
+        }
+        if rng.once_in(one_in) {
+            task.t = rng.between(task.d.max(T_LOWEST), task.t);
+        }
+    }
+    worse
+}
+
 /// Starts for the tasks of an accepted table whose fresh answers are known: of every kind, too few and too many.
 pub fn starts(rng: &mut Rng, table: &Table, fresh: &[Answer]) -> Vec<u64> {
     let safe = rng.once_in(2);

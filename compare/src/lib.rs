@@ -3,6 +3,7 @@
 //! Nothing here is shared with the project: it is plain Rust, with sums in `u128`, and follows the document's own order.
 
 pub mod answers;
+pub mod carry;
 pub mod delay;
 pub mod file;
 pub mod gen;

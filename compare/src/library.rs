@@ -21,9 +21,11 @@ impl<'a, T> Lent<'a, T> {
     }
 }
 
-/// The four functions of `include/ryeobadum.h`. An error says that the library couldn't be reached, or ended.
+/// The functions of `include/ryeobadum.h`. An error says that the library couldn't be reached, or ended.
 pub trait Library {
     fn read(&mut self, file: &[u8]) -> io::Result<u16>;
+
+    fn tasks(&mut self, file: &[u8]) -> io::Result<usize>;
 
     fn judge(
         &mut self,
@@ -36,5 +38,20 @@ pub trait Library {
 
     fn list(&mut self, file: &[u8], out: Lent<u8>) -> io::Result<usize>;
 
+    fn view(&mut self, file: &[u8], number: u8) -> io::Result<u16>;
+
     fn record(&mut self, file: &[u8], number: u8) -> io::Result<usize>;
+
+    fn carry(
+        &mut self,
+        older: &[u8],
+        newer: &[u8],
+        bounds: Lent<u64>,
+        rounds: Lent<u64>,
+        by: Lent<u8>,
+    ) -> io::Result<u32>;
+
+    fn worsens(&mut self, older: &[u8], newer: &[u8]) -> io::Result<u8>;
+
+    fn reason(&mut self, number: u8, out: Lent<u8>) -> io::Result<usize>;
 }

@@ -10,12 +10,14 @@ mod comparer;
 #[cfg(linked)]
 mod ffi;
 mod library;
+mod pairs;
 mod served;
 
 use std::env;
 use std::error::Error;
 use std::process::ExitCode;
 
+use compare_model::answers::SHORT_OUTPUT;
 use comparer::{Comparer, Tally};
 use library::Library;
 
@@ -37,6 +39,10 @@ fn check(seed: u64, count: u64, serve: &[String]) -> Result<ExitCode, Box<dyn Er
     }
     println!("{}", summary(seed, count, &on.tally));
     let never_met = never_met(&on.tally);
+    if count > 0 && on.tally.worsened == 0 {
+        println!("compare: no pair was one worsened, so that this run shows too little");
+        return Ok(ExitCode::FAILURE);
+    }
     if count > 0 && !never_met.is_empty() {
         println!("compare: refusals {never_met:?} were never met, so that this run shows too little");
         return Ok(ExitCode::FAILURE);
@@ -47,23 +53,26 @@ fn check(seed: u64, count: u64, serve: &[String]) -> Result<ExitCode, Box<dyn Er
 fn summary(seed: u64, count: u64, tally: &Tally) -> String {
     format!(
         "compare: {} calls agree (seed {seed}, {count} random tables): {} accepted, {} refused; tasks {} by request, {} by job, \
-         {} missed, at most {} rounds; {} listings, {} too long for their room; {} records",
+         {} missed, at most {} rounds; {} listings, {} too long for their room; {} records; \
+         {} pairs of files, {} of them worsened",
         tally.calls,
         tally.accepted,
-        tally.refused.iter().sum::<u64>(),
+        tally.refused.values().sum::<u64>(),
         tally.by_request,
         tally.by_job,
         tally.misses,
         tally.most_rounds,
         tally.listings,
         tally.too_short,
-        tally.records
+        tally.records,
+        tally.pairs,
+        tally.worsened
     )
 }
 
-/// The refusals that reading and judging can give and that no case met.
-fn never_met(tally: &Tally) -> Vec<usize> {
-    (1..=11).chain(13..=14).filter(|&number| tally.refused[number] == 0).collect()
+/// The refusals that the functions can give and that no case met.
+fn never_met(tally: &Tally) -> Vec<u16> {
+    (1..=14).chain([SHORT_OUTPUT.into()]).filter(|number| !tally.refused.contains_key(number)).collect()
 }
 
 /// The served library where a command is given, else the linked one.

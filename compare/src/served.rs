@@ -24,14 +24,17 @@ impl Served {
     }
 
     /// One call: the message that serve.c states, and back the result and the buffers.
-    fn call(&mut self, letter: u8, number: u8, file: &[u8], starts: &[u64], out: Outputs) -> io::Result<u64> {
+    fn call(&mut self, letter: u8, number: u8, input: Inputs, out: Outputs) -> io::Result<u64> {
+        let Inputs { file, newer, starts } = input;
         let Outputs { bounds, rounds, bytes } = out;
         let lent = [bounds.reach, bounds.all.len(), rounds.reach, rounds.all.len(), bytes.reach, bytes.all.len()];
         let message = &mut self.message;
         message.clear();
-        push(message, &[letter.into(), number.into(), file.len() as u64, starts.len() as u64]);
+        push(message, &[letter.into(), number.into()]);
+        push(message, &[file.len() as u64, newer.len() as u64, starts.len() as u64]);
         push(message, &lent.map(|n| n as u64));
         message.extend_from_slice(file);
+        message.extend_from_slice(newer);
         push(message, starts);
         push(message, bounds.all);
         push(message, rounds.all);
@@ -53,7 +56,11 @@ impl Served {
 
 impl Library for Served {
     fn read(&mut self, file: &[u8]) -> io::Result<u16> {
-        Ok(self.call(b'r', 0, file, &[], Outputs::bytes(Lent::nothing()))? as u16)
+        Ok(self.call(b'r', 0, Inputs::file(file), Outputs::bytes(Lent::nothing()))? as u16)
+    }
+
+    fn tasks(&mut self, file: &[u8]) -> io::Result<usize> {
+        Ok(self.call(b't', 0, Inputs::file(file), Outputs::bytes(Lent::nothing()))? as usize)
     }
 
     fn judge(
@@ -64,15 +71,52 @@ impl Library for Served {
         rounds: Lent<u64>,
         by: Lent<u8>,
     ) -> io::Result<u16> {
-        Ok(self.call(b'j', 0, file, starts, Outputs { bounds, rounds, bytes: by })? as u16)
+        Ok(self.call(b'j', 0, Inputs { starts, ..Inputs::file(file) }, Outputs { bounds, rounds, bytes: by })? as u16)
     }
 
     fn list(&mut self, file: &[u8], out: Lent<u8>) -> io::Result<usize> {
-        Ok(self.call(b'l', 0, file, &[], Outputs::bytes(out))? as usize)
+        Ok(self.call(b'l', 0, Inputs::file(file), Outputs::bytes(out))? as usize)
+    }
+
+    fn view(&mut self, file: &[u8], number: u8) -> io::Result<u16> {
+        Ok(self.call(b'v', number, Inputs::file(file), Outputs::bytes(Lent::nothing()))? as u16)
     }
 
     fn record(&mut self, file: &[u8], number: u8) -> io::Result<usize> {
-        Ok(self.call(b'v', number, file, &[], Outputs::bytes(Lent::nothing()))? as usize)
+        Ok(self.call(b'o', number, Inputs::file(file), Outputs::bytes(Lent::nothing()))? as usize)
+    }
+
+    fn carry(
+        &mut self,
+        older: &[u8],
+        newer: &[u8],
+        bounds: Lent<u64>,
+        rounds: Lent<u64>,
+        by: Lent<u8>,
+    ) -> io::Result<u32> {
+        let input = Inputs { newer, ..Inputs::file(older) };
+        Ok(self.call(b'c', 0, input, Outputs { bounds, rounds, bytes: by })? as u32)
+    }
+
+    fn worsens(&mut self, older: &[u8], newer: &[u8]) -> io::Result<u8> {
+        let input = Inputs { newer, ..Inputs::file(older) };
+        Ok(self.call(b'w', 0, input, Outputs::bytes(Lent::nothing()))? as u8)
+    }
+
+    fn reason(&mut self, number: u8, out: Lent<u8>) -> io::Result<usize> {
+        Ok(self.call(b'm', number, Inputs::file(&[]), Outputs::bytes(out))? as usize)
+    }
+}
+
+struct Inputs<'a> {
+    file: &'a [u8],
+    newer: &'a [u8],
+    starts: &'a [u64],
+}
+
+impl<'a> Inputs<'a> {
+    fn file(file: &'a [u8]) -> Inputs<'a> {
+        Inputs { file, newer: &[], starts: &[] }
     }
 }
 

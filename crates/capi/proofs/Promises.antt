@@ -1,29 +1,26 @@
--- What the promises say: any two results that one allows coincide, and a 0 says one thing. Assumes nothing.
-use mathlib.Core.Path.{_≡_, refl, sym, _∙_}
+-- What a 0 says, of each function: one thing. Assumes nothing.
+use mathlib.Core.Path.{_≡_, refl}
 use mathlib.Core.Bool.{Bool, true, false, cond}
 use mathlib.Core.List.{List}
 use Prim.Native.Nat.{ℕ, _+_, _*_, _≤_, zero-le, suc-le-suc}
 use native.Mathlib.Decide.{ℕ-discrete}
 use native.Mathlib.Omega.{arith}
 use lib.ListN.{length}
-use borrow.Author.Tests.{eqb-false, ne-eqb}
+use borrow.Author.Tests.{eqb-false, eq-eqb, ne-eqb}
 use Rattle.rules.specs.declared.Refusal.{Refusal}
-use Rattle.rules.specs.Chain.{isAccepted}
+use Rattle.rules.specs.Chain.{_orElse_, isAccepted}
 use Rattle.rules.specs.Listing.{tableLines, listing}
-use Rattle.rules.specs.File.{formIn, coresIn}
-use Rattle.rules.specs.Operations.{reading, checkView}
+use Rattle.rules.specs.File.{formIn, coresIn, tasksIn, decode}
+use Rattle.rules.specs.Operations.{checkFile, reading, checkView}
+use Rattle.facts.proofs.Chain.{both-accepted}
+use Rattle.facts.proofs.Accepted.{sound}
+use Rattle.facts.proofs.Reading.{decoded-accepted}
 use Rattle.whole.proofs.Places.{sets-limit, after-sets}
 use Rattle.plain.specs.Codes.{codeOf}
-use Rattle.capi.specs.JudgedFile.{JudgedFile}
-use Rattle.capi.specs.Record.{recordPlace}
-use Rattle.capi.proofs.Record.{record-there}
-
--- the other promises are equations with the result
-pub judged-once : {s starts bounds rounds by bounds₁ rounds₁ by₁ bounds₂ rounds₂ by₂ : List ℕ} {r₁ r₂ : ℕ}
-    → JudgedFile s starts bounds rounds by r₁ bounds₁ rounds₁ by₁ → JudgedFile s starts bounds rounds by r₂ bounds₂ rounds₂ by₂
-    → (r₁ ≡ r₂) × (bounds₁ ≡ bounds₂) × (rounds₁ ≡ rounds₂) × (by₁ ≡ by₂)
-judged-once p q =
-    (p .returned ∙ sym (q .returned), p .bounds-are ∙ sym (q .bounds-are), p .rounds-are ∙ sym (q .rounds-are), p .by-are ∙ sym (q .by-are))
+use Rattle.plain.specs.Stored.{checkOutputs}
+use Rattle.recarry.specs.Files.{checkFiles, faultyFile, checkCarry, carryRefusal, carryCode}
+use Rattle.capi.specs.Shown.{taskCount, recordPlace}
+use Rattle.capi.proofs.Shown.{tasks-there, record-there}
 
 -- "Returns 0 where the file is accepted, else the refusal"
 pub zero-accepted : (r : Refusal) → codeOf r ≡ 0 → isAccepted r ≡ true
@@ -32,6 +29,29 @@ zero-accepted r e = go (isAccepted r) refl e
     go : (b : Bool) → isAccepted r ≡ b → cond b 0 (r .number + 256 * r .place) ≡ 0 → b ≡ true
     go true is e = refl
     go false is e = absurd (omega (arith, eqb-false (r .number) 0 is))
+
+-- "Returns 0 where all tasks are judged", and only there
+module _ (older newer bounds rounds by : List ℕ) where
+  pub zero-carried : carryCode (carryRefusal older newer bounds rounds by) ≡ 0 → isAccepted (checkCarry older newer bounds rounds by) ≡ true
+  unfolding carryRefusal
+  zero-carried e = zero-accepted (checkCarry older newer bounds rounds by) (omega arith)
+
+  pub carried-zero : isAccepted (checkCarry older newer bounds rounds by) ≡ true → carryCode (carryRefusal older newer bounds rounds by) ≡ 0
+  unfolding carryRefusal checkCarry checkFiles faultyFile
+  carried-zero e =
+      let files = both-accepted (checkFile older orElse checkFile newer) (checkOutputs (tasksIn newer) bounds rounds by) e in
+      let (was, is) = both-accepted (checkFile older) (checkFile newer) (files .0) in
+      let outputs = files .1 in
+      simp (was, is, outputs)
+
+-- "Returns 0, which no accepted file has"
+pub zero-no-tasks : (s : List ℕ) → taskCount s ≡ 0 → isAccepted (checkFile s) ≡ false
+unfolding decode
+zero-no-tasks s e = go (ℕ-discrete (checkFile s .number) 0)
+  where
+    go : Dec (checkFile s .number ≡ 0) → isAccepted (checkFile s) ≡ false
+    go (yes passes) = absurd (omega (arith, tasks-there s passes, sound (decode s) (decoded-accepted s (eq-eqb _ _ passes)) .tasks-in .low))
+    go (no refused) = ne-eqb _ _ refused
 
 -- "Returns 0, which is the offset of no record"
 pub zero-no-record : (s : List ℕ) (k : ℕ) → recordPlace s k ≡ 0 → isAccepted (checkView s k) ≡ false

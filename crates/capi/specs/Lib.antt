@@ -1,5 +1,3 @@
--- What the C interface answers, in the words of include/ryeobadum.h.
---     JudgedFile  what the judgement of a file puts into its three outputs
---     Record      where a task's record starts
-pub mod JudgedFile
-pub mod Record
+-- What the C interface answers beside the rules, in the words of include/ryeobadum.h.
+--     Shown   how many tasks a file has, and where a task's record starts
+pub mod Shown

@@ -3,7 +3,9 @@ use mathlib.Core.Path.{_≡_, sym, _∙_}
 use mathlib.Core.List.{List}
 use Prim.Native.Nat.{ℕ}
 use Rattle.text.specs.Put.{Given}
-use Rattle.capi.proofs.Promises.{judged-once}
+use Rattle.rules.specs.declared.Refusal.{Refusal}
+use Rattle.rules.specs.declared.Answer.{Answer}
+use Rattle.plain.specs.Stored.{Stored}
 use Rattle.exact.specs.Exact.{Exact, Promises}
 
 -- what equals a rule is one
@@ -14,8 +16,14 @@ only-one rule a b p q = p ∙ sym q
 both : {A B : Type 0} {a c : A} {b d : B} → a ≡ c → b ≡ d → _≡_ {A = A × B} (a, b) (c, d)
 both p q = cc
 
-all-four : {n m : ℕ} {a b c d e f : List ℕ} → n ≡ m → a ≡ b → c ≡ d → e ≡ f → _≡_ {A = ℕ × List ℕ × List ℕ × List ℕ} (n, a, c, e) (m, b, d, f)
+all-four : {A : Type 0} {n m : A} {a b c d e f : List ℕ} → n ≡ m → a ≡ b → c ≡ d → e ≡ f → _≡_ {A = A × List ℕ × List ℕ × List ℕ} (n, a, c, e) (m, b, d, f)
 all-four p q r s = cc
+
+-- answers in three lent outputs
+stored : {A : Type 0} (rule : A) (refusal : Refusal) (answers : List Answer) (bounds rounds by : List ℕ)
+    → Exact (λ (r : A × List ℕ × List ℕ × List ℕ). (r .0 ≡ rule) × Stored refusal answers bounds rounds by (r .1) (r .2) (r .3))
+stored rule refusal answers bounds rounds by a b p q =
+    all-four (p .0 ∙ sym (q .0)) (p .1 .bounds-are ∙ sym (q .1 .bounds-are)) (p .1 .rounds-are ∙ sym (q .1 .rounds-are)) (p .1 .by-are ∙ sym (q .1 .by-are))
 
 -- a text in a lent buffer
 given : (text out : List ℕ) → Exact (λ (r : ℕ × List ℕ). Given text out (r .0) (r .1))
@@ -39,8 +47,17 @@ promises = record {
   judge-carried = λ older newer a b p q. p .is ∙ sym (q .is);
   list = λ s out. given _ out;
   lines = λ t answers out. given _ out;
+  judge-file = λ s starts bounds rounds by. stored _ _ _ bounds rounds by;
+  carry-files = λ older newer bounds rounds by a b p q. stored _ _ _ bounds rounds by a b (p .0, p .1 .stored) (q .0, q .1 .stored);
+  worsens-files = λ older newer. only-one _;
+  reason = λ number out. given _ out;
   ryb-read = λ s. only-one _;
-  ryb-judge = λ s starts bounds rounds by a b p q. let (result, bounds-same, rounds-same, by-same) = judged-once p q in all-four result bounds-same rounds-same by-same;
+  ryb-tasks = λ s. only-one _;
+  ryb-judge = λ s starts bounds rounds by. stored _ _ _ bounds rounds by;
   ryb-list = λ s out. given _ out;
+  ryb-view = λ s k. only-one _;
   ryb-record = λ s k. only-one _;
+  ryb-carry = λ older newer bounds rounds by a b p q. stored _ _ _ bounds rounds by a b (p .0, p .1 .stored) (q .0, q .1 .stored);
+  ryb-worsens = λ older newer. only-one _;
+  ryb-reason = λ number out. given _ out;
 }

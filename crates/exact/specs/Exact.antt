@@ -1,7 +1,7 @@
 -- "Show that any two results allowed by it coincide": a row for each public operation, with what its contract allows. Assumes nothing.
 use Prim.Native.Nat.{ℕ}
 use mathlib.Core.Path.{_≡_}
-use mathlib.Core.Bool.{Bool}
+use mathlib.Core.Bool.{Bool, cond}
 use mathlib.Core.List.{List}
 use lib.ListN.{take}
 use Rattle.rules.specs.declared.Table.{Table}
@@ -23,8 +23,11 @@ use Rattle.rejudge.specs.Carried.{Carried}
 use Rattle.writer.specs.Answers.{Wrote}
 use Rattle.text.specs.Put.{Given}
 use Rattle.plain.specs.Codes.{codeOf}
-use Rattle.capi.specs.JudgedFile.{JudgedFile}
-use Rattle.capi.specs.Record.{recordPlace}
+use Rattle.judged.specs.JudgedFile.{checkJudgedFile, JudgedFile}
+use Rattle.recarry.specs.declared.CarryRefusal.{CarryRefusal}
+use Rattle.recarry.specs.Files.{carryRefusal, carryCode, CarriedFiles, filesWorsen}
+use Rattle.reasons.specs.Reasons.{reasonText}
+use Rattle.capi.specs.Shown.{taskCount, recordPlace}
 
 -- a promise that allows one result; of an operation that is lent buffers, the result with their final bytes
 abbrev pub Exact : {A : Type 0} → (A → Type 0) → Type 0
@@ -55,9 +58,24 @@ pub record Promises : Type 0 where
   -- listing
   pub list : (s out : List ℕ) → Exact (λ (r : ℕ × List ℕ). Given (listing s) out (r .0) (r .1))
   pub lines : (t : Table) (answers : List Answer) (out : List ℕ) → Exact (λ (r : ℕ × List ℕ). Given (tableText t answers) out (r .0) (r .1))
+  -- judged
+  pub judge-file : (s starts bounds rounds by : List ℕ)
+      → Exact (λ (r : Refusal × List ℕ × List ℕ × List ℕ). (r .0 ≡ checkJudgedFile s starts bounds rounds by) × JudgedFile s starts bounds rounds by (r .1) (r .2) (r .3))
+  -- recarry
+  pub carry-files : (older newer bounds rounds by : List ℕ)
+      → Exact (λ (r : CarryRefusal × List ℕ × List ℕ × List ℕ). (r .0 ≡ carryRefusal older newer bounds rounds by) × CarriedFiles older newer bounds rounds by (r .1) (r .2) (r .3))
+  pub worsens-files : (older newer : List ℕ) → Exact (λ (r : Bool). r ≡ filesWorsen older newer)
+  -- reasons
+  pub reason : (number : ℕ) (out : List ℕ) → Exact (λ (r : ℕ × List ℕ). Given (reasonText number) out (r .0) (r .1))
   -- the C interface
   pub ryb-read : (s : List ℕ) → Exact (λ (r : ℕ). r ≡ codeOf (checkFile s))
+  pub ryb-tasks : (s : List ℕ) → Exact (λ (r : ℕ). r ≡ taskCount s)
   pub ryb-judge : (s starts bounds rounds by : List ℕ)
-      → Exact (λ (r : ℕ × List ℕ × List ℕ × List ℕ). JudgedFile s starts bounds rounds by (r .0) (r .1) (r .2) (r .3))
+      → Exact (λ (r : ℕ × List ℕ × List ℕ × List ℕ). (r .0 ≡ codeOf (checkJudgedFile s starts bounds rounds by)) × JudgedFile s starts bounds rounds by (r .1) (r .2) (r .3))
   pub ryb-list : (s out : List ℕ) → Exact (λ (r : ℕ × List ℕ). Given (listing s) out (r .0) (r .1))
+  pub ryb-view : (s : List ℕ) (k : ℕ) → Exact (λ (r : ℕ). r ≡ codeOf (checkView s k))
   pub ryb-record : (s : List ℕ) (k : ℕ) → Exact (λ (r : ℕ). r ≡ recordPlace s k)
+  pub ryb-carry : (older newer bounds rounds by : List ℕ)
+      → Exact (λ (r : ℕ × List ℕ × List ℕ × List ℕ). (r .0 ≡ carryCode (carryRefusal older newer bounds rounds by)) × CarriedFiles older newer bounds rounds by (r .1) (r .2) (r .3))
+  pub ryb-worsens : (older newer : List ℕ) → Exact (λ (r : ℕ). r ≡ cond (filesWorsen older newer) 1 0)
+  pub ryb-reason : (number : ℕ) (out : List ℕ) → Exact (λ (r : ℕ × List ℕ). Given (reasonText number) out (r .0) (r .1))

@@ -8,7 +8,11 @@ use Rattle.rules.specs.declared.Verdict.{Verdict}
 use Rattle.rules.specs.declared.Verdict.the-variants.{Holds, Misses}
 use Rattle.rules.specs.Chain.{isAccepted}
 
--- "A refusal is a number from 1 to 14 plus 256 times its place"; 0 where nothing is refused
+-- "255  an output has fewer places than the file has tasks"
+abbrev pub tooShort : ℕ
+tooShort = 255
+
+-- "A refusal is a number plus 256 times its place"; 0 where nothing is refused
 abbrev pub codeOf : Refusal → ℕ
 codeOf r = cond (isAccepted r) 0 (r .number + 256 * r .place)
 

@@ -1,15 +1,30 @@
--- What three outputs hold after some answers were stored into them. Assumes nothing.
+-- What three outputs hold after some answers were to be stored into them. Assumes nothing.
 use mathlib.Core.Path.{_≡_}
+use mathlib.Core.Bool.{Bool, cond, _||_}
 use mathlib.Core.List.{List, _++_, map}
 use Prim.Native.Nat.{ℕ}
-use lib.ListN.{length, take, drop}
+use lib.Dec.{ltb}
+use lib.ListN.{length, drop}
 use Rattle.rules.specs.declared.Answer.{Answer}
+use Rattle.rules.specs.declared.Refusal.{Refusal}
+use Rattle.rules.specs.Chain.{isAccepted, given}
 use Rattle.rules.specs.Judgement.{boundOf}
-use Rattle.plain.specs.Codes.{byNumber}
+use Rattle.plain.specs.Codes.{byNumber, tooShort}
 
--- "as far as each output reaches"; "Places beyond the tasks keep what they held."
+-- "an output has fewer places than there are tasks"
+abbrev pub short : ℕ → List ℕ → Bool
+short n out = ltb (length out) n
+
+unfoldable pub checkOutputs : ℕ → List ℕ → List ℕ → List ℕ → Refusal
+checkOutputs n bounds rounds by = given tooShort 0 (short n bounds || short n rounds || short n by)
+
+-- "Places beyond the tasks keep what they held."
 abbrev pub laidOver : List ℕ → List ℕ → List ℕ
-laidOver new out = take (length out) new ++ drop (length new) out
+laidOver new out = new ++ drop (length new) out
+
+-- an output afterwards. "Returns the refusal .. Then no output is changed."
+abbrev pub laidUnless : Refusal → List ℕ → List ℕ → List ℕ
+laidUnless refusal new out = cond (isAccepted refusal) (laidOver new out) out
 
 -- the three columns
 abbrev pub boundIn : Answer → ℕ
@@ -21,8 +36,8 @@ roundsIn a = a .rounds
 abbrev pub byIn : Answer → ℕ
 byIn a = byNumber (a .verdict)
 
--- the outputs with some answers in them
-pub record Stored (answers : List Answer) (bounds rounds by bounds′ rounds′ by′ : List ℕ) : Type 0 where
-  pub bounds-are : bounds′ ≡ laidOver (map boundIn answers) bounds
-  pub rounds-are : rounds′ ≡ laidOver (map roundsIn answers) rounds
-  pub by-are : by′ ≡ laidOver (map byIn answers) by
+-- the outputs with some answers in them, unless something is refused
+pub record Stored (refusal : Refusal) (answers : List Answer) (bounds rounds by bounds′ rounds′ by′ : List ℕ) : Type 0 where
+  pub bounds-are : bounds′ ≡ laidUnless refusal (map boundIn answers) bounds
+  pub rounds-are : rounds′ ≡ laidUnless refusal (map roundsIn answers) rounds
+  pub by-are : by′ ≡ laidUnless refusal (map byIn answers) by

@@ -4,12 +4,17 @@ use rules::Delay;
 use rules::Refusal;
 use rules::Verdict;
 ghost use mathlib.Core.Path.{_≡_};
+ghost use mathlib.Core.Bool.{_||_};
 ghost use Prim.Native.Nat.{_≤_};
-ghost use lib.ListN.{set, take};
+ghost use lib.Dec.{ltb};
+ghost use lib.ListN.{take};
 ghost use Rattle.laws.specs.Idioms.{filled};
 ghost use Rattle.rules.specs.Judgement.{boundOf};
 ghost use Rattle.plain.specs.Codes.{codeOf, byNumber};
-ghost use Rattle.plain.specs.Stored.{Stored};
+ghost use Rattle.plain.specs.Stored.{checkOutputs, Stored};
+
+// The refusal of an output that is too short for the answers. Document 01 has no number for it: its own end at 15.
+const TOO_SHORT: u8 = 255;
 
 // Number and place in one; 0 where nothing is refused.
 pub fn code(refusal: Refusal) -> u16
@@ -44,43 +49,44 @@ fn by_number(verdict: Verdict) -> u8
     }
 }
 
-// Stores at a place, where the output reaches it.
-fn store(out: &mut [u64], i: usize, x: u64)
-    ensures { λ _. ⌜ now (out .exit) ≡ set (now (out .entry)) i x ⌝ }
+// Some output has fewer places than n.
+fn short(n: usize, bounds: usize, rounds: usize, by: usize) -> bool
+    ensures { λ r. ⌜ r ≡ (ltb bounds n || ltb rounds n || ltb by n) ⌝ }
 {
-    if i < out.len() {
-        out[i] = x;
+    if bounds < n {
+        return true;
     }
+    if rounds < n {
+        return true;
+    }
+    by < n
 }
 
-fn store_byte(out: &mut [u8], i: usize, x: u8)
-    ensures { λ _. ⌜ now (out .exit) ≡ set (now (out .entry)) i x ⌝ }
-{
-    if i < out.len() {
-        out[i] = x;
-    }
-}
-
-// The first n answers, each output as far as it reaches.
+// The first n answers, each in its place of each output; where an output is too short for them, 255, and nothing changes.
 pub fn store_answers(
     answers: [Answer; 32],
     n: usize,
     bounds: &mut [u64],
     rounds: &mut [u64],
     by: &mut [u8],
-)
+) -> Refusal
     requires { ⌜ n ≤ 32 ⌝ }
-    ensures { λ _. ⌜ Stored (take n answers) (now (bounds .entry)) (now (rounds .entry)) (now (by .entry)) (now (bounds .exit)) (now (rounds .exit)) (now (by .exit)) ⌝ }
+    ensures { λ r. ⌜ r ≡ checkOutputs n (now (bounds .entry)) (now (rounds .entry)) (now (by .entry)) ⌝ }
+    ensures { λ r. ⌜ Stored r (take n answers) (now (bounds .entry)) (now (rounds .entry)) (now (by .entry)) (now (bounds .exit)) (now (rounds .exit)) (now (by .exit)) ⌝ }
 {
+    if short(n, bounds.len(), rounds.len(), by.len()) {
+        return rules::refused(TOO_SHORT, 0);
+    }
     let mut i: usize = 0;
     while i < n {
         let answer = answers[i];
         let verdict = answer.verdict;
-        store(bounds, i, bound_of(verdict));
-        store(rounds, i, answer.rounds);
-        store_byte(by, i, by_number(verdict));
+        bounds[i] = bound_of(verdict);
+        rounds[i] = answer.rounds;
+        by[i] = by_number(verdict);
         i += 1;
     }
+    rules::refused(0, 0)
 }
 
 // The starts that are lent, and 0 in the other places.

@@ -6,7 +6,7 @@ use borrow.Author.Needs.{needs}
 use borrow.Author.Tests.{eq-eqb}
 use Rattle.rules.specs.Operations.{checkView}
 use Rattle.file.proofs.Reading.{viewed-long, viewed-task}
-use Rattle.capi.proofs.Record.{no-record, record-there}
+use Rattle.capi.proofs.Shown.{no-record, record-there}
 use Rattle.capi.proofs.ryb_record.Statement.{statement}
 use Rattle.capi.proofs.ryb_record.Tie as tie
 

@@ -12,10 +12,10 @@ use Rattle.rules.specs.declared.Refusal.{Refusal}
 use Rattle.rules.specs.declared.AllJudged.{AllJudged}
 use Rattle.rules.specs.Operations.{checkFile, answersFrom, judgeAll}
 use Rattle.file.proofs.Reading.{file-counts}
-use Rattle.facts.proofs.Chain.{passes, refuses, first-refuses, second-decides}
-use Rattle.plain.specs.Codes.{codeOf}
-use Rattle.capi.specs.JudgedFile.{checkJudging, answersOf, columnAfter, JudgedFile}
-use Rattle.plain.specs.Stored.{Stored}
+use Rattle.facts.proofs.Chain.{passes, refuses, second-decides, stops, goes-on}
+use Rattle.judged.specs.JudgedFile.{checkJudging, checkJudgedFile, answersOf, JudgedFile}
+use Rattle.plain.specs.Stored.{checkOutputs, Stored}
+use Rattle.plain.proofs.Laid.{unchanged}
 use Rattle.laws.proofs.Filled.{take-filled}
 use Rattle.facts.proofs.LentStarts.{lent-starts}
 
@@ -25,10 +25,6 @@ module _ (s starts : List ℕ) where
   -- the starts as the rounds get them
   abbrev pub lentStarts : List ℕ
   lentStarts = filled 32 0 (take 32 starts)
-
-  by-file : isAccepted (checkFile s) ≡ false → checkJudging s starts ≡ checkFile s
-  unfolding checkJudging
-  by-file e = first-refuses (checkFile s) _ e
 
   module _ (file : isAccepted (checkFile s) ≡ true) where
     by-starts : checkJudging s starts ≡ judgeAll (decode s) starts .refusal
@@ -42,6 +38,9 @@ module _ (s starts : List ℕ) where
     as-judged : {r : AllJudged} → r ≡ judgeAll (decode s) lentStarts → r .refusal ≡ judgeAll (decode s) starts .refusal
     as-judged is = rw (is, lent-judged)
 
+    decided : {r : AllJudged} → r ≡ judgeAll (decode s) lentStarts → r .refusal ≡ checkJudging s starts
+    decided is = as-judged is ∙ sym by-starts
+
   -- the places after the tasks hold no answer
   answers-all : isAccepted (judgeAll (decode s) starts .refusal) ≡ true → take (tasksIn s) (judgeAll (decode s) starts .answers) ≡ answersOf s starts
   unfolding judgeAll answersFrom answersOf decode
@@ -50,33 +49,29 @@ module _ (s starts : List ℕ) where
 -- ---- the outputs afterwards, and what is returned
 
 module _ (s starts : List ℕ) {bounds rounds by : List ℕ} where
-  refused-leaves : isAccepted (checkJudging s starts) ≡ false → JudgedFile s starts bounds rounds by (codeOf (checkJudging s starts)) bounds rounds by
-  unfolding columnAfter
-  refused-leaves e = record { returned = refl; bounds-are = rw e; rounds-are = rw e; by-are = rw e }
+  -- refused before the outputs are looked at
+  refused-leaves : {r : Refusal} → r ≡ checkJudging s starts → (r .number ≡ 0 → ⊥)
+      → (r ≡ checkJudgedFile s starts bounds rounds by) × JudgedFile s starts bounds rounds by bounds rounds by
+  unfolding checkJudgedFile
+  refused-leaves is refused =
+      let decided = stops (checkJudging s starts) (checkOutputs (tasksIn s) bounds rounds by) is refused in
+      (decided, unchanged (refuses decided refused))
 
-  accepted-gives : {bounds′ rounds′ by′ : List ℕ} → isAccepted (checkJudging s starts) ≡ true → Stored (answersOf s starts) bounds rounds by bounds′ rounds′ by′
-      → JudgedFile s starts bounds rounds by 0 bounds′ rounds′ by′
-  unfolding columnAfter
-  accepted-gives e given = record {
-    returned = rw e;
-    bounds-are = rw e (given .bounds-are);
-    rounds-are = rw e (given .rounds-are);
-    by-are = rw e (given .by-are);
-  }
-
-  pub file-refused : {r : Refusal} → r ≡ checkFile s → (r .number ≡ 0 → ⊥) → JudgedFile s starts bounds rounds by (codeOf r) bounds rounds by
-  file-refused is refused =
-      let by-file = by-file s starts (refuses is refused) in
-      rw (is ∙ sym by-file) (refused-leaves (rw by-file (refuses is refused)))
+  pub file-refused : {r : Refusal} → r ≡ checkFile s → (r .number ≡ 0 → ⊥)
+      → (r ≡ checkJudgedFile s starts bounds rounds by) × JudgedFile s starts bounds rounds by bounds rounds by
+  unfolding checkJudging
+  file-refused is refused = refused-leaves (stops (checkFile s) _ is refused) refused
 
   module _ (file : isAccepted (checkFile s) ≡ true) {r : AllJudged} (is : r ≡ judgeAll (decode s) (lentStarts s starts)) where
-    pub start-refused : (r .refusal .number ≡ 0 → ⊥) → JudgedFile s starts bounds rounds by (codeOf (r .refusal)) bounds rounds by
-    start-refused refused =
-        let decided : r .refusal ≡ checkJudging s starts = as-judged s starts file is ∙ sym (by-starts s starts file) in
-        rw decided (refused-leaves (refuses decided refused))
+    pub start-refused : (r .refusal .number ≡ 0 → ⊥)
+        → (r .refusal ≡ checkJudgedFile s starts bounds rounds by) × JudgedFile s starts bounds rounds by bounds rounds by
+    start-refused refused = refused-leaves (decided s starts file is) refused
 
-    pub all-judged : {bounds′ rounds′ by′ : List ℕ} → r .refusal .number ≡ 0 → Stored (take (tasksIn s) (r .answers)) bounds rounds by bounds′ rounds′ by′
-        → JudgedFile s starts bounds rounds by 0 bounds′ rounds′ by′
-    all-judged passed given =
+    pub all-judged : {x : Refusal} {bounds′ rounds′ by′ : List ℕ} → r .refusal .number ≡ 0 → x ≡ checkOutputs (tasksIn s) bounds rounds by
+        → Stored x (take (tasksIn s) (r .answers)) bounds rounds by bounds′ rounds′ by′
+        → (x ≡ checkJudgedFile s starts bounds rounds by) × JudgedFile s starts bounds rounds by bounds′ rounds′ by′
+    unfolding checkJudgedFile
+    all-judged passed given stored =
         let accepted = passes (as-judged s starts file is) passed in
-        accepted-gives (rw (by-starts s starts file) accepted) (rw (is, lent-judged s starts file, answers-all s starts accepted) at given)
+        let x-is = goes-on (checkJudging s starts) (checkOutputs (tasksIn s) bounds rounds by) (decided s starts file is) passed given in
+        (x-is, rw (is, lent-judged s starts file, answers-all s starts accepted, x-is) at stored)

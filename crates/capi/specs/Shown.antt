@@ -1,0 +1,15 @@
+-- What a file's header shows where the file is accepted: how many tasks it has, and where a task's record starts. Assumes nothing.
+use mathlib.Core.Bool.{cond}
+use mathlib.Core.List.{List}
+use Prim.Native.Nat.{ℕ}
+use Rattle.rules.specs.Chain.{isAccepted}
+use Rattle.rules.specs.File.{coresIn, tasksIn, formIn, recordAt}
+use Rattle.rules.specs.Operations.{checkFile, checkView}
+
+-- "Returns how many tasks it has .. Returns 0, which no accepted file has, where it is refused"
+unfoldable pub taskCount : List ℕ → ℕ
+taskCount s = cond (isAccepted (checkFile s)) (tasksIn s) 0
+
+-- "Returns the offset r of its 29 bytes"; "Returns 0, which is the offset of no record, where the file is refused .. or has no such task"
+unfoldable pub recordPlace : List ℕ → ℕ → ℕ
+recordPlace s task = cond (isAccepted (checkView s task)) (recordAt (formIn s) (coresIn s) task) 0
