@@ -3,7 +3,7 @@
  * Where OLDER is given, the table as it was before, its bounds are begun at where that is sound: the same answers, in no more rounds.
  *
  * Ends with 0 where every task holds, 1 where one misses, 2 where a file is refused, 3 on wrong use or where a file can't be read
- * or the answer not be written.
+ * or the answer can't be written.
  */
 #include <inttypes.h>
 #include <stdio.h>

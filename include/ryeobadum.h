@@ -32,7 +32,7 @@ enum {
     RYB_BAD_LENGTH = 2,    /* the length isn't 46 + 2 * cores + 29 * tasks by the header's counts */
     RYB_BAD_TRAILER = 3,   /* the trailer's first number isn't the length less 12 */
     RYB_BAD_SUM = 4,       /* either sum of the trailer is wrong */
-    RYB_BAD_COUNT = 5,     /* a count is outside its limits (cores 1..8, partitions 1..16, tasks 1..32), or the fourth byte isn't 0 */
+    RYB_BAD_COUNT = 5,     /* a count is outside its limits (cores 1..8, partitions 1..16, tasks 1..32), or byte four isn't 0 */
     RYB_BAD_FIGURE = 6,    /* a timing figure is outside its range */
     RYB_BAD_RELATION = 7,  /* a relation between timing figures is broken */
     RYB_BAD_SET = 8,       /* a core's set is empty or names a partition above the count */
@@ -41,7 +41,7 @@ enum {
     RYB_BAD_REQUESTS = 11, /* a task's H is above 1,000,000 */
     RYB_NO_TASK = 12,      /* the task asked for isn't 1..tasks */
     RYB_LATE_START = 13,   /* a given start is above the task's D */
-    RYB_HIGH_START = 14,   /* F(s) < s, where s is the larger of C and the given start, and F(s) what one round makes of s */
+    RYB_HIGH_START = 14,   /* F(s) < s, where s is the larger of C and the given start, and F(s) what a round makes of s */
     RYB_SHORT_OUTPUT = 255 /* an output has fewer places than the file has tasks */
 };
 
@@ -58,10 +58,13 @@ enum {
     RYB_NEWER = 2  /* the newer file is refused */
 };
 
-/* Sizes. */
-#define RYB_MAX_TASKS 32     /* an accepted file has no more tasks */
-#define RYB_MAX_CORES 8      /* and no more cores */
-#define RYB_MAX_FILE 7951    /* a file of more bytes is refused by 2 whatever is in it, so its first RYB_MAX_FILE + 1 are answered as the whole is */
+/*
+ * Sizes. A file of more than RYB_MAX_FILE bytes is refused by 2 whatever is in it: a buffer of one byte more tells, since the
+ * first RYB_MAX_FILE + 1 bytes of a longer file are answered as the whole file is.
+ */
+#define RYB_MAX_TASKS 32     /* the most tasks of an accepted file */
+#define RYB_MAX_CORES 8      /* the most cores */
+#define RYB_MAX_FILE 7951    /* no input of more bytes is accepted */
 #define RYB_MAX_LISTING 3266 /* no listing is longer */
 #define RYB_MAX_REASON 66    /* no text of ryb_reason is longer */
 #define RYB_RECORD 29        /* the bytes of a task's record */

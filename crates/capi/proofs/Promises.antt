@@ -2,14 +2,14 @@
 use mathlib.Core.Path.{_≡_, refl}
 use mathlib.Core.Bool.{Bool, true, false, cond}
 use mathlib.Core.List.{List}
-use Prim.Native.Nat.{ℕ, _+_, _*_, _≤_, zero-le, suc-le-suc}
+use Prim.Native.Nat.{ℕ, _+_, _*_, _/_, _%_, _<_, _≤_, zero-le, suc-le-suc}
 use native.Mathlib.Decide.{ℕ-discrete}
 use native.Mathlib.Omega.{arith}
 use lib.ListN.{length}
 use borrow.Author.Tests.{eqb-false, eq-eqb, ne-eqb}
 use Rattle.rules.specs.declared.Refusal.{Refusal}
 use Rattle.rules.specs.Chain.{_orElse_, isAccepted}
-use Rattle.rules.specs.Listing.{tableLines, listing}
+use Rattle.rules.specs.Listing.{tableLines, refusedLine, listing}
 use Rattle.rules.specs.File.{formIn, coresIn, tasksIn, decode}
 use Rattle.rules.specs.Operations.{checkFile, reading, checkView}
 use Rattle.facts.proofs.Chain.{both-accepted}
@@ -29,6 +29,10 @@ zero-accepted r e = go (isAccepted r) refl e
     go : (b : Bool) → isAccepted r ≡ b → cond b 0 (r .number + 256 * r .place) ≡ 0 → b ≡ true
     go true is e = refl
     go false is e = absurd (omega (arith, eqb-false (r .number) 0 is))
+
+-- RYB_NUMBER and RYB_PLACE give back what a refusal was made of
+pub parts-back : (r : Refusal) → r .number < 256 → isAccepted r ≡ false → (codeOf r % 256 ≡ r .number) × (codeOf r / 256 ≡ r .place)
+parts-back r h e = rw e (omega arith, omega arith)
 
 -- "Returns 0 where all tasks are judged", and only there
 module _ (older newer bounds rounds by : List ℕ) where
@@ -63,7 +67,7 @@ zero-no-record s k e = go (ℕ-discrete (checkView s k .number) 0)
 
 -- "Returns the length of the listing, which is never 0"
 listed-some : (s : List ℕ) (b : Bool) → isAccepted (reading s .refusal) ≡ b → 1 ≤ length (listing s)
-unfolding listing tableLines
+unfolding listing tableLines refusedLine
 listed-some s true e = rw e (suc-le-suc zero-le)
 listed-some s false e = rw e (suc-le-suc zero-le)
 

@@ -6,10 +6,10 @@ use Rattle.rules.specs.Chain.{isAccepted}
 use Rattle.rules.specs.File.{coresIn, tasksIn, formIn, recordAt}
 use Rattle.rules.specs.Operations.{checkFile, checkView}
 
--- "Returns how many tasks it has .. Returns 0, which no accepted file has, where it is refused"
+-- "Returns how many it has .. Returns 0, which no accepted file has, where ryb_read refuses it."
 unfoldable pub taskCount : List ℕ → ℕ
 taskCount s = cond (isAccepted (checkFile s)) (tasksIn s) 0
 
--- "Returns the offset r of its 29 bytes"; "Returns 0, which is the offset of no record, where the file is refused .. or has no such task"
+-- "Returns the offset r of its bytes .. Returns 0, which is the offset of no record, where ryb_view refuses it."
 unfoldable pub recordPlace : List ℕ → ℕ → ℕ
 recordPlace s task = cond (isAccepted (checkView s task)) (recordAt (formIn s) (coresIn s) task) 0

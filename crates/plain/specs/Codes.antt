@@ -8,20 +8,20 @@ use Rattle.rules.specs.declared.Verdict.{Verdict}
 use Rattle.rules.specs.declared.Verdict.the-variants.{Holds, Misses}
 use Rattle.rules.specs.Chain.{isAccepted}
 
--- "255  an output has fewer places than the file has tasks"
+-- RYB_SHORT_OUTPUT: "an output has fewer places than the file has tasks"
 abbrev pub tooShort : ℕ
 tooShort = 255
 
--- "A refusal is a number plus 256 times its place"; 0 where nothing is refused
+-- "its number plus 256 times its place, and 0 where nothing is refused"
 abbrev pub codeOf : Refusal → ℕ
 codeOf r = cond (isAccepted r) 0 (r .number + 256 * r .place)
 
--- "1 where it holds by the request delay, 2 where it holds by the job delay"
+-- RYB_HOLDS_BY_REQUEST and RYB_HOLDS_BY_JOB
 abbrev pub delayNumber : Delay → ℕ
 delayNumber Request = 1
 delayNumber Job = 2
 
--- "0 where the task misses"
+-- RYB_MISSES, or by which delay it holds
 abbrev pub byNumber : Verdict → ℕ
 byNumber Misses = 0
 byNumber (Holds bound by) = delayNumber by

@@ -11,7 +11,7 @@ use Rattle.rules.specs.Chain.{isAccepted, given}
 use Rattle.rules.specs.Judgement.{boundOf}
 use Rattle.plain.specs.Codes.{byNumber, tooShort}
 
--- "an output has fewer places than there are tasks"
+-- "an output has fewer places than the file has tasks", of which there are n
 abbrev pub short : ℕ → List ℕ → Bool
 short n out = ltb (length out) n
 
@@ -22,7 +22,7 @@ checkOutputs n bounds rounds by = given tooShort 0 (short n bounds || short n ro
 abbrev pub laidOver : List ℕ → List ℕ → List ℕ
 laidOver new out = new ++ drop (length new) out
 
--- an output afterwards. "Returns the refusal .. Then no output is changed."
+-- an output afterwards: where something is refused "no output is changed"
 abbrev pub laidUnless : Refusal → List ℕ → List ℕ → List ℕ
 laidUnless refusal new out = cond (isAccepted refusal) (laidOver new out) out
 
