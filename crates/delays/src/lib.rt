@@ -1,7 +1,7 @@
 // Document 01's delay figures as times: the cycles times tCK.
 ghost use mathlib.Core.Path.{_≡_};
 ghost use Prim.Native.Nat.{_+_, _*_, _<_, _^_};
-ghost use Rattle.rules.specs.Timing.{tCK, ddr3-1333};
+ghost use Rattle.rules.specs.Timing.{tCK};
 ghost use Rattle.rules.specs.Units.{inTime, _⊕_};
 ghost use Rattle.rules.specs.Delays.{pre, act, readwrite};
 ghost use Rattle.facts.specs.Sound.{SoundRow};
@@ -16,9 +16,6 @@ use cycles::run;
 use cycles::window;
 use rules::Cycles;
 use rules::Picos;
-
-// "The DDR3-1333 row is supplied."
-pub const DDR3_1333: [u16; 15] = [1500, 9, 9, 9, 7, 8, 5, 10, 4, 20, 24, 5, 2, 1024, 65535];
 
 // The figures that a core's delays are made of, as times, and the window, a count.
 pub struct Figures {
@@ -66,10 +63,4 @@ pub fn figures_of(row: [u16; 15]) -> Figures
         run: in_time(row, run(row, w)),
         window: w,
     }
-}
-
-pub fn ddr3_1333() -> [u16; 15]
-    ensures { λ r. ⌜ r ≡ ddr3-1333 ⌝ }
-{
-    DDR3_1333
 }

@@ -14,10 +14,12 @@ use Rattle.rules.specs.declared.Judged.{Judged}
 use Rattle.rules.specs.declared.AllJudged.{AllJudged}
 use Rattle.rules.specs.declared.Rejudged.{Rejudged}
 use Rattle.rules.specs.Order as Order
-use Rattle.rules.specs.Refusals.{checkBoard, checkTasks, checkTable}
+use Rattle.rules.specs.Timing as Timing
+use Rattle.rules.specs.Timing.{Row}
+use Rattle.rules.specs.Refusals.{checkTiming, boardRefusal, checkBoard, checkTasks, checkTable, checkJudged}
 use Rattle.rules.specs.File.{checkWhole}
 use Rattle.rules.specs.Operations.{checkFile, reading, checkView, viewing, judgeOne, judgeAll}
-use Rattle.rules.specs.Listing.{listing, tableText}
+use Rattle.rules.specs.Listing.{refusedLine, tableText, listing}
 use Rattle.judge.specs.Starts.{inPicos}
 use Rattle.rejudge.specs.Carried.{Carried}
 use Rattle.writer.specs.Answers.{Wrote}
@@ -43,14 +45,18 @@ pub record Promises : Type 0 where
   pub write : (t : Table) (out : List ℕ) → Exact (λ (r : Written × List ℕ). Wrote t out (r .0) (r .1))
   -- input
   pub front : (input : List ℕ) (n : ℕ) → Exact (λ (part : List ℕ). part ≡ take n input)
-  -- tasks
+  -- timing and tasks
+  pub ddr3-1333 : Exact (λ (r : Row). r ≡ Timing.ddr3-1333)
+  pub check-timing : (row : Row) → Exact (λ (r : Refusal). r ≡ checkTiming row)
   pub check-tasks : (t : Table) → Exact (λ (r : Refusal). r ≡ checkTasks t)
   -- checks
+  pub board-refusal : (cores partitions tasks fourth : ℕ) (row : Row) (sets : List ℕ) → Exact (λ (r : Refusal). r ≡ boardRefusal cores partitions tasks fourth row sets)
   pub check-board : (t : Table) → Exact (λ (r : Refusal). r ≡ checkBoard t)
   pub check : (t : Table) → Exact (λ (r : Refusal). r ≡ checkTable t)
   -- order
   pub worsens : (older newer : Table) → Exact (λ (r : Bool). r ≡ Order.worsens older newer)
   -- judge
+  pub gate : (t : Table) → Exact (λ (r : Refusal). r ≡ checkJudged t)
   pub judge-one : (t : Table) (k : ℕ) (start : Picos) → Exact (λ (r : Judged). r ≡ judgeOne t k (start .0))
   pub judge-all : (t : Table) (starts : List Picos) → Exact (λ (r : AllJudged). r ≡ judgeAll t (inPicos starts))
   -- rejudge
@@ -58,12 +64,14 @@ pub record Promises : Type 0 where
   -- listing
   pub list : (s out : List ℕ) → Exact (λ (r : ℕ × List ℕ). Given (listing s) out (r .0) (r .1))
   pub lines : (t : Table) (answers : List Answer) (out : List ℕ) → Exact (λ (r : ℕ × List ℕ). Given (tableText t answers) out (r .0) (r .1))
+  pub refused : (number : ℕ) (out : List ℕ) → Exact (λ (r : ℕ × List ℕ). Given (refusedLine number) out (r .0) (r .1))
   -- judged
   pub judge-file : (s starts bounds rounds by : List ℕ)
       → Exact (λ (r : Refusal × List ℕ × List ℕ × List ℕ). (r .0 ≡ checkJudgedFile s starts bounds rounds by) × JudgedFile s starts bounds rounds by (r .1) (r .2) (r .3))
   -- recarry
   pub carry-files : (older newer bounds rounds by : List ℕ)
       → Exact (λ (r : CarryRefusal × List ℕ × List ℕ × List ℕ). (r .0 ≡ carryRefusal older newer bounds rounds by) × CarriedFiles older newer bounds rounds by (r .1) (r .2) (r .3))
+  pub carry-code : (refused : CarryRefusal) → Exact (λ (r : ℕ). r ≡ carryCode refused)
   pub worsens-files : (older newer : List ℕ) → Exact (λ (r : Bool). r ≡ filesWorsen older newer)
   -- reasons
   pub reason : (number : ℕ) (out : List ℕ) → Exact (λ (r : ℕ × List ℕ). Given (reasonText number) out (r .0) (r .1))

@@ -1,12 +1,22 @@
-// Checks 6 and 7, of a timing row: each figure in its range, then the relations between them.
+// A timing row: the supplied one, and checks 6 and 7, each figure in its range, then the relations between them.
 ghost use mathlib.Core.Path.{_≡_};
 ghost use Prim.Native.Nat.{_%_, _≤_};
+ghost use Rattle.rules.specs.Timing.{ddr3-1333};
 ghost use Rattle.rules.specs.Chain.{first};
 ghost use Rattle.rules.specs.Refusals.{figureFault, relationFault, checkTiming};
 ghost use Rattle.timing.specs.Ranges.{notBurst, outOfRange, AreRanges};
 use cycles::figure;
 use rules::Refusal;
 use rules::refused;
+
+// "The DDR3-1333 row is supplied."
+pub const DDR3_1333: [u16; 15] = [1500, 9, 9, 9, 7, 8, 5, 10, 4, 20, 24, 5, 2, 1024, 65535];
+
+pub fn ddr3_1333() -> [u16; 15]
+    ensures { λ r. ⌜ r ≡ ddr3-1333 ⌝ }
+{
+    DDR3_1333
+}
 
 // The lowest and highest of a figure.
 pub struct Limits(pub u16, pub u16);

@@ -1,8 +1,8 @@
 -- The supplied row is the document's. Assumes nothing.
 use mathlib.Core.Path.{refl}
 use Rattle.rules.specs.Timing.{ddr3-1333}
-use Rattle.delays.proofs.ddr3_1333.Statement.{statement}
-use Rattle.delays.proofs.ddr3_1333.Tie as tie
+use Rattle.timing.proofs.ddr3_1333.Statement.{statement}
+use Rattle.timing.proofs.ddr3_1333.Tie as tie
 
 returns : tie.Need-returns
 unfolding ddr3-1333
