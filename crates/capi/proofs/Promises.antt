@@ -15,7 +15,7 @@ use Rattle.rules.specs.Operations.{checkFile, reading, checkView}
 use Rattle.facts.proofs.Chain.{both-accepted}
 use Rattle.facts.proofs.Accepted.{sound}
 use Rattle.facts.proofs.Reading.{decoded-accepted}
-use Rattle.whole.proofs.Places.{sets-limit, after-sets}
+use Rattle.places.proofs.Places.{sets-limit, after-sets}
 use Rattle.plain.specs.Codes.{codeOf}
 use Rattle.plain.specs.Stored.{checkOutputs}
 use Rattle.recarry.specs.Files.{checkFiles, faultyFile, checkCarry, carryRefusal, carryCode}

@@ -27,7 +27,7 @@ pub extern "C" fn ryb_tasks(file: &[u8]) -> usize
     if refusal.number != 0 {
         return 0;
     }
-    whole::size(file[2])
+    places::size(file[2])
 }
 
 // Reads and judges all tasks. A refusal changes nothing.
@@ -70,7 +70,7 @@ pub extern "C" fn ryb_record(file: &[u8], task: u8) -> usize
     if refusal.number != 0 {
         return 0;
     }
-    whole::record_at(file[3], file[0], whole::size(task) - 1)
+    places::record_at(file[3], file[0], places::size(task) - 1)
 }
 
 // Reads two files and judges the newer one's tasks after the older one. A refusal changes nothing.

@@ -12,7 +12,7 @@ use Rattle.rules.specs.File.{setsAt, recordsAt, recordSize, fileLength, recordB
 use Rattle.laws.specs.Idioms.{joined, bytesOf}
 use Rattle.laws.proofs.Bytes.{bytes-length}
 use Rattle.laws.proofs.Runs.{sets-after, joined-length, joined-take}
-use Rattle.whole.proofs.Places.{records-are}
+use Rattle.places.proofs.Places.{records-are}
 use Rattle.encode.specs.Counts.{counts}
 
 module _ (form : ℕ) (i : Task) where

@@ -1,4 +1,4 @@
-// A table as the bytes of its file, into a lent buffer that has room for them: the body, and the trailer after it. Where the parts stand is `whole`'s.
+// A table as the bytes of its file, into a lent buffer that has room for them: the body, and the trailer after it. Where the parts stand is `places`'s.
 ghost use mathlib.Core.Path.{_≡_};
 ghost use Prim.Native.Nat.{_+_, _*_, _≤_};
 ghost use mathlib.Core.List.{map};
@@ -43,13 +43,13 @@ fn put_tasks(out: &mut [u8], t: Table)
     requires { ⌜ recordAt (t .fourth) (t .cores) (t .tasks + 1) ≤ length (now out) ⌝ }
     ensures { λ _. ⌜ now (out .exit) ≡ sets (now (out .entry)) (recordsAt (t .fourth) (t .cores)) (joined (map (recordBytes (t .fourth)) (tasksOf t))) ⌝ }
 {
-    let count = whole::size(t.tasks);
+    let count = places::size(t.tasks);
     let mut done: usize = 0;
     while done < count {
         let task = t.task[done];
         put_task(
             out,
-            whole::record_at(t.fourth, t.cores, done),
+            places::record_at(t.fourth, t.cores, done),
             t.fourth,
             task,
         );
@@ -81,9 +81,9 @@ pub fn put_body(out: &mut [u8], t: Table)
     let figures = t.sets;
     put_figures(
         out,
-        whole::sets_at(t.fourth),
+        places::sets_at(t.fourth),
         &figures[..],
-        whole::size(t.cores),
+        places::size(t.cores),
     );
     put_tasks(out, t);
 }

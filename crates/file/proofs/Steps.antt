@@ -14,7 +14,7 @@ use Rattle.laws.proofs.Fill.{fill-step}
 use Rattle.laws.proofs.Places.{place-of}
 use Rattle.laws.proofs.Parts.{part-length}
 use Rattle.laws.proofs.Runs.{map-below-next, map-upTo-next, length-map-from, sets-next}
-use Rattle.whole.proofs.Places.{record-limit}
+use Rattle.places.proofs.Places.{record-limit}
 use Rattle.file.specs.Places.{figuresIn, tasksTo}
 
 module _ (s : List ℕ) where

@@ -1,4 +1,4 @@
-// Table files: reader and view. What the bytes mean is in the rules; here is how they are read. Where they stand is `whole`'s.
+// Table files: reader and view. What the bytes mean is in the rules; here is how they are read. Where they stand is `places`'s.
 
 ghost use mathlib.Core.Path.{_≡_};
 ghost use Prim.Native.Nat.{_+_, _*_, _≤_, _<_};
@@ -26,8 +26,8 @@ fn record_in<'a>(file: &'a [u8], i: usize) -> &'a [u8]
     ensures { λ r. ⌜ now r ≡ recordIn (now (file .entry)) (i + 1) ⌝ }
 {
     let form = file[3];
-    let a = whole::record_at(form, file[0], i);
-    let e = a + whole::record_size(form);
+    let a = places::record_at(form, file[0], i);
+    let e = a + places::record_size(form);
     &file[a..e]
 }
 
@@ -77,7 +77,7 @@ fn tasks(file: &[u8]) -> [Task; 32]
     requires { ⌜ Sized (now file) ⌝ }
     ensures { λ r. ⌜ r ≡ filled 32 noTask (tasksTo (now (file .entry)) (tasksIn (now (file .entry)))) ⌝ }
 {
-    let n = whole::size(file[2]);
+    let n = places::size(file[2]);
     let none = tasks::no_task();
     let mut all = [none; 32];
     let mut i: usize = 0;
@@ -107,8 +107,8 @@ pub fn sets_in(file: &[u8]) -> [u16; 8]
     let mut sets = [0u16; 8];
     figures(
         file,
-        whole::sets_at(file[3]),
-        whole::size(file[0]),
+        places::sets_at(file[3]),
+        places::size(file[0]),
         &mut sets[..],
     );
     sets
@@ -156,7 +156,7 @@ fn records_in(file: &[u8]) -> Refusal
     let mut seen = tasks::no_faults();
     let mut i: u8 = 0;
     while i < n {
-        let task = task_at(file, whole::size(i));
+        let task = task_at(file, places::size(i));
         seen = tasks::noted(seen, i + 1, cores, task);
         i += 1;
     }
@@ -244,5 +244,5 @@ pub fn view<'a>(file: &'a [u8], k: u8) -> &'a [u8]
     if refusal.number != 0 {
         return &file[0..0];
     }
-    record_in(file, whole::size(k) - 1)
+    record_in(file, places::size(k) - 1)
 }

@@ -22,7 +22,7 @@ fn per_task(file: &[u8], core: &mut [u8; 32], latest: &mut [u64; 32])
     requires { λ t. ⌜ (length (now core) ≡ 32) × (length (now latest) ≡ 32) ⌝ }
     ensures { λ t _. ⌜ PerTask (t .task) (t .tasks) (now (core .exit)) (now (latest .exit)) ⌝ }
 {
-    let n = whole::size(file[2]);
+    let n = places::size(file[2]);
     let mut i: usize = 0;
     while i < n {
         let task = file::task_at(file, i);
@@ -47,7 +47,7 @@ fn columns(
     requires { λ t. ⌜ (length (now spans) ≡ 33) × (length (now costs) ≡ 33) × (length (now asks) ≡ 33) ⌝ }
     ensures { λ t _. ⌜ Columns (t .task) (t .tasks) (now (order .entry)) (now (spans .exit)) (now (costs .exit)) (now (asks .exit)) ⌝ }
 {
-    let n = whole::size(file[2]);
+    let n = places::size(file[2]);
     let mut k: usize = 0;
     while k < n {
         let at = order[k];
@@ -64,11 +64,11 @@ fn priced(file: &[u8]) -> Priced
     requires { ⌜ isAccepted (checkFile (now file)) ≡ true ⌝ }
     ensures { λ r. ⌜ r ≡ pricedOf (decode (now (file .entry))) ⌝ }
 {
-    let cores = whole::size(file[0]);
+    let cores = places::size(file[0]);
     let sets = file::sets_in(file);
     let costs = board::all_costs(cores, &sets, file::row_in(file));
     Priced {
-        tasks: whole::size(file[2]),
+        tasks: places::size(file[2]),
         cores,
         costs,
     }

@@ -25,7 +25,7 @@ pub fn write(t: Table, out: &mut [u8]) -> Written
     if checked.number != 0 {
         return wrote_nothing(checked);
     }
-    let n = whole::file_length(t.fourth, t.cores, t.tasks);
+    let n = places::file_length(t.fourth, t.cores, t.tasks);
     if out.len() < n {
         return wrote_nothing(rules::refused(15, 0));
     }

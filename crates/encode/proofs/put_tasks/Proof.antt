@@ -10,7 +10,7 @@ use Rattle.rules.specs.Tasks.{noTask}
 use Rattle.rules.specs.File.{recordsAt, recordSize, recordBytes}
 use Rattle.laws.specs.Idioms.{joined}
 use Rattle.laws.proofs.Runs.{unmapped, store-next}
-use Rattle.whole.proofs.Places.{record-limit, record-place, record-within}
+use Rattle.places.proofs.Places.{record-limit, record-place, record-within}
 use Rattle.encode.proofs.Stores.{record-length}
 use Rattle.encode.proofs.put_tasks.Statement.{statement}
 use Rattle.encode.proofs.put_tasks.Tie as tie

@@ -3,7 +3,7 @@ use Prim.Native.Nat.{_+_}
 use native.Mathlib.Omega.{arith}
 use borrow.Author.Needs.{needs}
 use Rattle.rules.specs.File.{formIn, coresIn}
-use Rattle.whole.proofs.Places.{sets-limit, after-sets}
+use Rattle.places.proofs.Places.{sets-limit, after-sets}
 use Rattle.file.proofs.Steps.{part-record}
 use Rattle.file.proofs.record_in.Statement.{statement}
 use Rattle.file.proofs.record_in.Tie as tie

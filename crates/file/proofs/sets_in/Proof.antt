@@ -4,7 +4,7 @@ use native.Mathlib.Omega.{arith}
 use borrow.Author.Needs.{needs}
 use Rattle.rules.specs.File.{setsAt, formIn, coresIn, tasksIn}
 use Rattle.laws.proofs.Runs.{sets-filled}
-use Rattle.whole.proofs.Places.{after-sets, length-is}
+use Rattle.places.proofs.Places.{after-sets, length-is}
 use Rattle.file.specs.Places.{figuresIn}
 use Rattle.file.proofs.Steps.{figures-length}
 use Rattle.file.proofs.sets_in.Statement.{statement}

@@ -6,7 +6,7 @@ use Prim.Native.Nat.{ℕ, _+_, _<_, _≤_}
 use native.Mathlib.Omega.{arith}
 use lib.ListN.{length}
 use Rattle.rules.specs.File.{formIn, coresIn, tasksIn, recordAt, recordSize}
-use Rattle.whole.proofs.Places.{record-within, length-is}
+use Rattle.places.proofs.Places.{record-within, length-is}
 use Rattle.file.specs.Places.{Sized}
 use Rattle.file.proofs.Steps.{record-long, task-is}
 use Rattle.file.proofs.task_at.Statement.{statement}

@@ -8,7 +8,7 @@ use Prim.Native.Nat.{_+_, _-_}
 use Rattle.rules.specs.Chain.{isAccepted}
 use Rattle.rules.specs.File.{formIn, coresIn, tasksIn}
 use Rattle.rules.specs.Operations.{checkView}
-use Rattle.whole.proofs.Places.{record-within, length-is}
+use Rattle.places.proofs.Places.{record-within, length-is}
 use Rattle.file.proofs.Reading.{view-nothing, view-record, viewed-length, viewed-task}
 use Rattle.file.proofs.view.Statement.{statement}
 use Rattle.file.proofs.view.Tie as tie

@@ -1,8 +1,8 @@
 -- Where the sets start. Assumes nothing.
 use borrow.Author.Needs.{needs}
 use Rattle.rules.specs.File.{setsAt}
-use Rattle.whole.proofs.sets_at.Statement.{statement}
-use Rattle.whole.proofs.sets_at.Tie as tie
+use Rattle.places.proofs.sets_at.Statement.{statement}
+use Rattle.places.proofs.sets_at.Tie as tie
 
 pub sets-at-spec : {M : Type 1} → statement M
 unfolding setsAt

@@ -1,8 +1,8 @@
 -- The size of a record. Assumes nothing.
 use borrow.Author.Needs.{needs}
 use Rattle.rules.specs.File.{recordSize}
-use Rattle.whole.proofs.record_size.Statement.{statement}
-use Rattle.whole.proofs.record_size.Tie as tie
+use Rattle.places.proofs.record_size.Statement.{statement}
+use Rattle.places.proofs.record_size.Tie as tie
 
 pub record-size-spec : {M : Type 1} → statement M
 unfolding recordSize

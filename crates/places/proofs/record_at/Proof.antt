@@ -3,9 +3,9 @@ use Prim.Native.Nat.{_*_, _≤_}
 use native.Mathlib.Nat.{mul-le-mul}
 use native.Mathlib.Omega.{arith}
 use borrow.Author.Needs.{needs}
-use Rattle.whole.proofs.Places.{records-are, record-place}
-use Rattle.whole.proofs.record_at.Statement.{statement}
-use Rattle.whole.proofs.record_at.Tie as tie
+use Rattle.places.proofs.Places.{records-are, record-place}
+use Rattle.places.proofs.record_at.Statement.{statement}
+use Rattle.places.proofs.record_at.Tie as tie
 
 records : (c : tie.After-record-size) → c .record-size .result * c .before .before .before .args .i ≤ 16320
 records c = mul-le-mul {n₂ = 64} {m₂ = 255} (c .record-size .ensures .1) (omega arith)

@@ -1,8 +1,8 @@
 -- The length of a file by its counts. Assumes nothing.
 use borrow.Author.Needs.{needs}
-use Rattle.whole.proofs.Places.{length-is}
-use Rattle.whole.proofs.file_length.Statement.{statement}
-use Rattle.whole.proofs.file_length.Tie as tie
+use Rattle.places.proofs.Places.{length-is}
+use Rattle.places.proofs.file_length.Statement.{statement}
+use Rattle.places.proofs.file_length.Tie as tie
 
 pub file-length-spec : {M : Type 1} → statement M
 file-length-spec =
