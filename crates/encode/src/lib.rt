@@ -1,4 +1,4 @@
-// A table as the bytes of its file, into a lent buffer that has room for them: the body, and the trailer after it. Where the parts stand is `places`'s.
+// A table as the bytes of its file, into a lent buffer that has room for them: the body, and the trailer after it. Where the parts stand is `places`'.
 ghost use mathlib.Core.Path.{_≡_};
 ghost use Prim.Native.Nat.{_+_, _*_, _≤_};
 ghost use mathlib.Core.List.{map};

@@ -17,7 +17,7 @@ use Rattle.laws.specs.Idioms.{Within}
 use Rattle.laws.proofs.Tests.{inside}
 use Rattle.facts.proofs.Accepted.{sound}
 use Rattle.facts.proofs.Reading.{file-whole, decoded-accepted}
-use Rattle.file.specs.Places.{Sized}
+use Rattle.fields.specs.Places.{Sized}
 use Rattle.file.specs.Answers.{readNothing}
 use Rattle.whole.proofs.Came.{whole}
 

@@ -1,5 +1,3 @@
--- What the inner functions promise. The rules say what reading and viewing answer.
---     Places   runs of figures and of tasks
+-- What an inner function promises. The rules say what reading and viewing answer.
 --     Answers  what a refused read answers
-pub mod Places
 pub mod Answers

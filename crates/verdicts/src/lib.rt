@@ -25,7 +25,7 @@ fn per_task(file: &[u8], core: &mut [u8; 32], latest: &mut [u64; 32])
     let n = places::size(file[2]);
     let mut i: usize = 0;
     while i < n {
-        let task = file::task_at(file, i);
+        let task = fields::task_at(file, i);
         core[i] = task.core;
         latest[i] = climb::latest(task);
         i += 1;
@@ -51,7 +51,7 @@ fn columns(
     let mut k: usize = 0;
     while k < n {
         let at = order[k];
-        let task = file::task_at(file, at);
+        let task = fields::task_at(file, at);
         spans[k] = task.period.0;
         costs[k] = task.exec.0;
         asks[k] = task.requests as u64;
@@ -65,8 +65,8 @@ fn priced(file: &[u8]) -> Priced
     ensures { λ r. ⌜ r ≡ pricedOf (decode (now (file .entry))) ⌝ }
 {
     let cores = places::size(file[0]);
-    let sets = file::sets_in(file);
-    let costs = board::all_costs(cores, &sets, file::row_in(file));
+    let sets = fields::sets_in(file);
+    let costs = board::all_costs(cores, &sets, fields::row_in(file));
     Priced {
         tasks: places::size(file[2]),
         cores,

@@ -10,8 +10,6 @@ use Rattle.rules.specs.Tasks.{noTask, taskOf}
 use Rattle.rules.specs.Refusals.{checkTasks}
 use Rattle.rules.specs.File.{formIn, coresIn, tasksIn, recordAt, recordSize, recordIn, recordTask, decode}
 use Rattle.tasks.proofs.Seen.{SeenAll, seen-none, seen-task, seen-all}
-use Rattle.places.proofs.Places.{record-within, length-is}
-use Rattle.file.proofs.Steps.{record-long}
 use Rattle.file.proofs.records_in.Statement.{statement}
 use Rattle.file.proofs.records_in.Tie as tie
 

@@ -5,10 +5,10 @@ use borrow.Author.Needs.{needs}
 use Rattle.rules.specs.File.{setsAt, formIn, coresIn, tasksIn}
 use Rattle.laws.proofs.Runs.{sets-filled}
 use Rattle.places.proofs.Places.{after-sets, length-is}
-use Rattle.file.specs.Places.{figuresIn}
-use Rattle.file.proofs.Steps.{figures-length}
-use Rattle.file.proofs.sets_in.Statement.{statement}
-use Rattle.file.proofs.sets_in.Tie as tie
+use Rattle.fields.specs.Places.{figuresIn}
+use Rattle.fields.proofs.Steps.{figures-length}
+use Rattle.fields.proofs.sets_in.Statement.{statement}
+use Rattle.fields.proofs.sets_in.Tie as tie
 
 figures-requires : tie.Need-figures-requires
 figures-requires c κs =

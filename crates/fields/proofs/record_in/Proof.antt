@@ -4,9 +4,9 @@ use native.Mathlib.Omega.{arith}
 use borrow.Author.Needs.{needs}
 use Rattle.rules.specs.File.{formIn, coresIn}
 use Rattle.places.proofs.Places.{sets-limit, after-sets}
-use Rattle.file.proofs.Steps.{part-record}
-use Rattle.file.proofs.record_in.Statement.{statement}
-use Rattle.file.proofs.record_in.Tie as tie
+use Rattle.fields.proofs.Steps.{part-record}
+use Rattle.fields.proofs.record_in.Statement.{statement}
+use Rattle.fields.proofs.record_in.Tie as tie
 
 read-form : tie.Need-shared-slice-read-form
 read-form c =

@@ -2,9 +2,9 @@
 use mathlib.Core.Path.{_∙_}
 use borrow.Author.Needs.{needs}
 use Rattle.laws.proofs.Runs.{sets-full}
-use Rattle.file.proofs.Steps.{figures-length}
-use Rattle.file.proofs.row_in.Statement.{statement}
-use Rattle.file.proofs.row_in.Tie as tie
+use Rattle.fields.proofs.Steps.{figures-length}
+use Rattle.fields.proofs.row_in.Statement.{statement}
+use Rattle.fields.proofs.row_in.Tie as tie
 
 returns : tie.Need-returns
 returns c = c .before .figures .ensures ∙ sets-full 15 0 _ (figures-length _ 4 15)

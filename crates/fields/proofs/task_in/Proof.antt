@@ -3,8 +3,8 @@ use native.Mathlib.Omega.{arith}
 use borrow.Author.Needs.{needs}
 use Rattle.rules.specs.File.{recordTask}
 use Rattle.laws.proofs.Parts.{number-one}
-use Rattle.file.proofs.task_in.Statement.{statement}
-use Rattle.file.proofs.task_in.Tie as tie
+use Rattle.fields.proofs.task_in.Statement.{statement}
+use Rattle.fields.proofs.task_in.Tie as tie
 
 returns : tie.Need-returns
 unfolding recordTask

@@ -15,7 +15,7 @@ use Rattle.laws.proofs.Places.{place-of}
 use Rattle.laws.proofs.Parts.{part-length}
 use Rattle.laws.proofs.Runs.{map-below-next, map-upTo-next, length-map-from, sets-next}
 use Rattle.places.proofs.Places.{record-limit}
-use Rattle.file.specs.Places.{figuresIn, tasksTo}
+use Rattle.fields.specs.Places.{figuresIn, tasksTo}
 
 module _ (s : List ℕ) where
   pub figures-length : (at n : ℕ) → length (figuresIn s at n) ≡ n

@@ -7,10 +7,10 @@ use native.Mathlib.Omega.{arith}
 use lib.ListN.{length}
 use Rattle.rules.specs.File.{formIn, coresIn, tasksIn, recordAt, recordSize}
 use Rattle.places.proofs.Places.{record-within, length-is}
-use Rattle.file.specs.Places.{Sized}
-use Rattle.file.proofs.Steps.{record-long, task-is}
-use Rattle.file.proofs.task_at.Statement.{statement}
-use Rattle.file.proofs.task_at.Tie as tie
+use Rattle.fields.specs.Places.{Sized}
+use Rattle.fields.proofs.Steps.{record-long, task-is}
+use Rattle.fields.proofs.task_at.Statement.{statement}
+use Rattle.fields.proofs.task_at.Tie as tie
 
 module _ (s : List ℕ) (i : ℕ) (here : i < tasksIn s) where
   -- its record lies within the file
