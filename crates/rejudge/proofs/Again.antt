@@ -11,7 +11,7 @@ use Rattle.rules.specs.declared.Rejudged.{Rejudged}
 use Rattle.rules.specs.Chain.{isAccepted}
 use Rattle.rules.specs.Refusals.{checkJudged}
 use Rattle.rules.specs.Order.{worsens}
-use Rattle.rules.specs.Operations.{answersFrom, fresh, olderBound, checkBoth, faultyOf, isCarried, rejudging}
+use Rattle.rules.specs.Operations.{checkBoth, faultyOf, isCarried, rejudging}
 use Rattle.facts.proofs.Again.{rejudged-verdicts}
 use Rattle.rejudge.specs.Carried.{notRejudged, Carried}
 
@@ -35,15 +35,6 @@ module _ (older newer : Table) where
     again-newer h = again-refused (checkJudged newer) Newer h (simp was) (simp (was, h))
 
     module _ (is : isAccepted (checkJudged newer) ≡ true) where
-      -- the answers alone
-      pub answers-carried : worsens older newer ≡ true → answersFrom newer (olderBound older) ≡ rejudging older newer .answers
-      unfolding rejudging checkBoth
-      answers-carried h = simp (was, is, h)
-
-      pub answers-fresh : worsens older newer ≡ false → answersFrom newer fresh ≡ rejudging older newer .answers
-      unfolding rejudging checkBoth
-      answers-fresh h = simp (was, is, h)
-
       pub again-judged : {r : Refusal} {carried : Bool} {answers : List Answer} → r ≡ checkJudged newer → carried ≡ worsens older newer → answers ≡ rejudging older newer .answers
           → _≡_ {A = Rejudged} (record { refusal = r; faulty = Neither; carried = carried; answers = answers }) (rejudging older newer)
       unfolding rejudging faultyOf isCarried checkBoth

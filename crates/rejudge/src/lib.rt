@@ -1,62 +1,10 @@
-// Judgement of a newer table after an older one, from the older bounds where that is sound.
+// Judgement of a newer table after an older one, from the older bounds where that is sound: the refusals of both. The answers are `after`'s.
 ghost use mathlib.Core.Path.{_≡_};
-ghost use mathlib.Core.Bool.{true};
-ghost use Rattle.laws.specs.Idioms.{entry};
-ghost use Rattle.rules.specs.Chain.{isAccepted};
-ghost use Rattle.rules.specs.Refusals.{checkTable};
-ghost use Rattle.rules.specs.Order.{worsens};
-ghost use Rattle.rules.specs.Operations.{answersFrom, rejudging, olderBounds};
-ghost use Rattle.facts.specs.Starts.{AllAllowed};
 ghost use Rattle.rejudge.specs.Carried.{notRejudged, Carried};
-use rules::Answer;
 use rules::Faulty;
 use rules::Refusal;
 use rules::Rejudged;
 use rules::Table;
-
-// The answers of an accepted table from starts none of which is refused.
-fn answers(table: Table, starts: [u64; 32]) -> [Answer; 32]
-    requires { ⌜ isAccepted (checkTable table) ≡ true ⌝ }
-    requires { ⌜ AllAllowed table starts ⌝ }
-    ensures { λ r. ⌜ r ≡ answersFrom table (entry 0 starts) ⌝ }
-{
-    let judged = columns::judge_tasks(table, starts);
-    let all = judged.answers;
-    all
-}
-
-// "each task started from its older bound, or 0 where it missed"
-fn older_starts(older: Table) -> [u64; 32]
-    requires { ⌜ isAccepted (checkTable older) ≡ true ⌝ }
-    ensures { λ r. ⌜ r ≡ olderBounds older ⌝ }
-{
-    let fresh = [0u64; 32];
-    let all = answers(older, fresh);
-    let mut starts = [0u64; 32];
-    let mut i: usize = 0;
-    while i < 32 {
-        let answer = all[i];
-        let verdict = answer.verdict;
-        starts[i] = plain::bound_of(verdict);
-        i += 1;
-    }
-    starts
-}
-
-// The answers of two accepted tables: each task from its older bound where the newer table is the older one worsened, else fresh.
-pub fn answers_after(older: Table, newer: Table, carried: bool) -> [Answer; 32]
-    requires { ⌜ isAccepted (checkTable older) ≡ true ⌝ }
-    requires { ⌜ isAccepted (checkTable newer) ≡ true ⌝ }
-    requires { ⌜ carried ≡ worsens older newer ⌝ }
-    ensures { λ r. ⌜ r ≡ rejudging older newer .answers ⌝ }
-{
-    if carried {
-        let starts = older_starts(older);
-        return answers(newer, starts);
-    }
-    let fresh = [0u64; 32];
-    answers(newer, fresh)
-}
 
 fn not_rejudged(refusal: Refusal, faulty: Faulty) -> Rejudged
     ensures { λ r. ⌜ r ≡ notRejudged refusal faulty ⌝ }
@@ -84,7 +32,7 @@ pub fn judge_carried(older: Table, newer: Table) -> Rejudged
         return not_rejudged(is, Faulty::Newer);
     }
     let carried = order::worsens(older, newer);
-    let answers = answers_after(older, newer, carried);
+    let answers = after::answers_after(older, newer, carried);
     Rejudged {
         refusal: is,
         faulty: Faulty::Neither,

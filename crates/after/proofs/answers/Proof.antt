@@ -2,8 +2,8 @@
 use mathlib.Core.Path.{_∙_, ap}
 use Rattle.rules.specs.declared.AllJudged.{AllJudged}
 use Rattle.facts.proofs.AllStarts.{allowed-answers}
-use Rattle.rejudge.proofs.answers.Statement.{statement}
-use Rattle.rejudge.proofs.answers.Tie as tie
+use Rattle.after.proofs.answers.Statement.{statement}
+use Rattle.after.proofs.answers.Tie as tie
 
 returns : tie.Need-returns
 returns c =

@@ -11,8 +11,8 @@ use Rattle.rules.specs.Operations.{answersFrom, fresh}
 use Rattle.judge.proofs.Column.{Column, column-none, column-next}
 use Rattle.facts.proofs.AllStarts.{all-fresh, answers-long, fresh-starts, bounds-of-answers}
 use Rattle.facts.proofs.LentStarts.{answers-same}
-use Rattle.rejudge.proofs.older_starts.Statement.{statement}
-use Rattle.rejudge.proofs.older_starts.Tie as tie
+use Rattle.after.proofs.older_starts.Statement.{statement}
+use Rattle.after.proofs.older_starts.Tie as tie
 
 abbrev Inv-loop : tie.InvT-loop
 Inv-loop all starts₀ i₀ starts i = (i ≤ 32) × Column (λ (a : Answer). boundOf (a .verdict)) all 32 i starts

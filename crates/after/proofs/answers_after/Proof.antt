@@ -6,10 +6,10 @@ use Rattle.laws.specs.Idioms.{entry}
 use Rattle.rules.specs.Operations.{answersFrom, fresh}
 use Rattle.facts.proofs.Starts.{accepted-judged}
 use Rattle.facts.proofs.LentStarts.{answers-same}
-use Rattle.rejudge.proofs.Again.{answers-carried, answers-fresh}
+use Rattle.after.proofs.Either.{answers-carried, answers-fresh}
 use Rattle.facts.proofs.AllStarts.{all-fresh, all-carried, carried-answers, fresh-starts}
-use Rattle.rejudge.proofs.answers_after.Statement.{statement}
-use Rattle.rejudge.proofs.answers_after.Tie as tie
+use Rattle.after.proofs.answers_after.Statement.{statement}
+use Rattle.after.proofs.answers_after.Tie as tie
 
 answers-requires : tie.Need-answers-requires
 answers-requires c κs =

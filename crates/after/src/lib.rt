@@ -1,0 +1,55 @@
+// The answers of a newer table after an older one, where both are accepted.
+ghost use mathlib.Core.Path.{_≡_};
+ghost use mathlib.Core.Bool.{true};
+ghost use Rattle.laws.specs.Idioms.{entry};
+ghost use Rattle.rules.specs.Chain.{isAccepted};
+ghost use Rattle.rules.specs.Refusals.{checkTable};
+ghost use Rattle.rules.specs.Order.{worsens};
+ghost use Rattle.rules.specs.Operations.{answersFrom, rejudging, olderBounds};
+ghost use Rattle.facts.specs.Starts.{AllAllowed};
+use rules::Answer;
+use rules::Table;
+
+// The answers of an accepted table from starts none of which is refused.
+fn answers(table: Table, starts: [u64; 32]) -> [Answer; 32]
+    requires { ⌜ isAccepted (checkTable table) ≡ true ⌝ }
+    requires { ⌜ AllAllowed table starts ⌝ }
+    ensures { λ r. ⌜ r ≡ answersFrom table (entry 0 starts) ⌝ }
+{
+    let judged = columns::judge_tasks(table, starts);
+    let all = judged.answers;
+    all
+}
+
+// "each task started from its older bound, or 0 where it missed"
+fn older_starts(older: Table) -> [u64; 32]
+    requires { ⌜ isAccepted (checkTable older) ≡ true ⌝ }
+    ensures { λ r. ⌜ r ≡ olderBounds older ⌝ }
+{
+    let fresh = [0u64; 32];
+    let all = answers(older, fresh);
+    let mut starts = [0u64; 32];
+    let mut i: usize = 0;
+    while i < 32 {
+        let answer = all[i];
+        let verdict = answer.verdict;
+        starts[i] = plain::bound_of(verdict);
+        i += 1;
+    }
+    starts
+}
+
+// The answers of two accepted tables: each task from its older bound where the newer table is the older one worsened, else fresh.
+pub fn answers_after(older: Table, newer: Table, carried: bool) -> [Answer; 32]
+    requires { ⌜ isAccepted (checkTable older) ≡ true ⌝ }
+    requires { ⌜ isAccepted (checkTable newer) ≡ true ⌝ }
+    requires { ⌜ carried ≡ worsens older newer ⌝ }
+    ensures { λ r. ⌜ r ≡ rejudging older newer .answers ⌝ }
+{
+    if carried {
+        let starts = older_starts(older);
+        return answers(newer, starts);
+    }
+    let fresh = [0u64; 32];
+    answers(newer, fresh)
+}
