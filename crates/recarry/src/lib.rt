@@ -52,7 +52,7 @@ fn store_after(
     ensures { λ r. ⌜ Stored r (take (newer .tasks) (rejudging older newer .answers)) (now (bounds .entry)) (now (rounds .entry)) (now (by .entry)) (now (bounds .exit)) (now (rounds .exit)) (now (by .exit)) ⌝ }
 {
     let n = newer.tasks as usize;
-    let answers = rejudge::answers_after(older, newer, order::worsens(older, newer));
+    let answers = after::answers_after(older, newer, order::worsens(older, newer));
     plain::store_answers(answers, n, bounds, rounds, by)
 }
 
