@@ -1,6 +1,7 @@
 /*
  * check FILE [OLDER]: says for each task of a table file whether it meets its deadline, and by when it has responded at the latest.
- * Where OLDER is given, the table as it was before, its bounds are begun at where that is sound: the same answers, in no more rounds.
+ * OLDER is the table as it was before. Each task then begins at its older bound where that is sound: the same answers, in no more
+ * rounds.
  *
  * Ends with 0 where every task holds, 1 where one misses, 2 where a file is refused, 3 on wrong use or where a file can't be read
  * or the answer can't be written.

@@ -134,16 +134,16 @@ uint16_t ryb_view(const uint8_t *file, size_t n, uint8_t task);
 size_t ryb_record(const uint8_t *file, size_t n, uint8_t task);
 
 /*
- * Reads two table files and judges each task of the newer one, after the older one: where ryb_worsens says 1, each task begins at its
- * bound in the older table, or at 0 where it missed there; else all begin at 0. In either case the bounds and the deciding delays
- * are those that ryb_judge gives for the newer file with no starts; only the rounds may be fewer.
+ * Reads two table files and judges each task of the newer one after the older one: where ryb_worsens says 1, each task begins
+ * at its bound in the older table, or at 0 where it missed there; else all begin at 0. In either case the bounds and the
+ * deciding delays are those that ryb_judge gives for the newer file with no starts, and only the rounds may be fewer.
  *
- * Returns 0 where all tasks are judged. Then bounds, rounds and by say of the newer file's tasks what they say after ryb_judge, and
- * places beyond the tasks keep what they held.
+ * Returns 0 where all tasks are judged. Then bounds, rounds and by say of the newer file's tasks what they say after ryb_judge,
+ * and places beyond the tasks keep what they held.
  *
- * Returns else the refusal plus 65536 times the file that it is about. The older file's come first (1 to 11, with RYB_OLDER), then
- * the newer's (1 to 11, with RYB_NEWER), then RYB_SHORT_OUTPUT, with neither, where bounds, rounds or by has fewer places than
- * the newer file has tasks. In each case no output is changed.
+ * Returns else the refusal plus 65536 times the file that it is about. The older file's come first (1 to 11, with RYB_OLDER),
+ * then the newer's (1 to 11, with RYB_NEWER), then RYB_SHORT_OUTPUT, with neither, where bounds, rounds or by has fewer places
+ * than the newer file has tasks. In each case no output is changed.
  */
 uint32_t ryb_carry(const uint8_t *older, size_t older_n,
                    const uint8_t *newer, size_t newer_n,
@@ -152,20 +152,20 @@ uint32_t ryb_carry(const uint8_t *older, size_t older_n,
                    uint8_t *by, size_t by_n);
 
 /*
- * Asks whether the newer of two table files is the older one worsened: alike in everything but that tasks' C and H may be raised and
- * their T shortened.
+ * Asks whether the newer of two table files is the older one worsened: alike in everything but that the tasks' C and H may be
+ * raised and their T shortened.
  *
- * Returns 1 where ryb_read accepts both files and that is so: then ryb_carry begins at the older bounds. Returns 0 otherwise. Writes
- * nothing.
+ * Returns 1 where ryb_read accepts both files and that is so: then ryb_carry begins at the older bounds. Returns 0 otherwise.
+ * Writes nothing.
  */
 uint8_t ryb_worsens(const uint8_t *older, size_t older_n, const uint8_t *newer, size_t newer_n);
 
 /*
- * Writes a short text for a refusal's number (RYB_NUMBER) to out: what is wrong, in ASCII, with no line feed and no zero byte after
- * it. Every number has a text; where it is that of no refusal, the text says so.
+ * Writes a short text for a refusal's number (RYB_NUMBER) to out: what is wrong, in ASCII, with no line feed and no zero byte
+ * after it. Every number has a text; where no refusal has the number, the text says so.
  *
- * Returns the length of the text, which is never 0, and leaves the bytes of out after it as they were. Where the text doesn't fit in
- * out_n bytes, returns 0 and changes nothing; RYB_MAX_REASON bytes are always enough.
+ * Returns the length of the text, which is never 0, and leaves the bytes of out after it as they were. Where the text doesn't
+ * fit in out_n bytes, returns 0 and changes nothing; RYB_MAX_REASON bytes are always enough.
  */
 size_t ryb_reason(uint8_t number, uint8_t *out, size_t out_n);
 

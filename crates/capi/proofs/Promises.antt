@@ -18,7 +18,8 @@ use Rattle.facts.proofs.Reading.{decoded-accepted}
 use Rattle.places.proofs.Places.{sets-limit, after-sets}
 use Rattle.plain.specs.Codes.{codeOf}
 use Rattle.plain.specs.Stored.{checkOutputs}
-use Rattle.recarry.specs.Files.{checkFiles, faultyFile, checkCarry, carryRefusal, carryCode}
+use Rattle.recarry.specs.declared.CarryRefusal.{CarryRefusal}
+use Rattle.recarry.specs.Files.{tableNumber, checkFiles, faultyFile, checkCarry, carryRefusal, carryCode}
 use Rattle.capi.specs.Shown.{taskCount, recordPlace}
 use Rattle.capi.proofs.Shown.{tasks-there, record-there}
 
@@ -47,6 +48,15 @@ module _ (older newer bounds rounds by : List ℕ) where
       let (was, is) = both-accepted (checkFile older) (checkFile newer) (files .0) in
       let outputs = files .1 in
       simp (was, is, outputs)
+
+-- RYB_NUMBER, RYB_PLACE and RYB_TABLE give back what a refusal was made of
+pub parts-back : (r : Refusal) → r .number < 256 → r .place < 256 → isAccepted r ≡ false
+    → (codeOf r % 256 ≡ r .number) × (codeOf r / 256 % 256 ≡ r .place)
+parts-back r h g e = rw e (omega arith, omega arith)
+
+pub carried-parts-back : (r : CarryRefusal) → r .refusal .number < 256 → r .refusal .place < 256 → isAccepted (r .refusal) ≡ false
+    → (carryCode r % 256 ≡ r .refusal .number) × (carryCode r / 256 % 256 ≡ r .refusal .place) × (carryCode r / 65536 ≡ tableNumber (r .faulty))
+carried-parts-back r h g e = rw e (omega arith, omega arith, omega arith)
 
 -- "Returns 0, which no accepted file has"
 pub zero-no-tasks : (s : List ℕ) → taskCount s ≡ 0 → isAccepted (checkFile s) ≡ false
