@@ -31,10 +31,6 @@ zero-accepted r e = go (isAccepted r) refl e
     go true is e = refl
     go false is e = absurd (omega (arith, eqb-false (r .number) 0 is))
 
--- RYB_NUMBER and RYB_PLACE give back what a refusal was made of
-pub parts-back : (r : Refusal) → r .number < 256 → isAccepted r ≡ false → (codeOf r % 256 ≡ r .number) × (codeOf r / 256 ≡ r .place)
-parts-back r h e = rw e (omega arith, omega arith)
-
 -- "Returns 0 where all tasks are judged", and only there
 module _ (older newer bounds rounds by : List ℕ) where
   pub zero-carried : carryCode (carryRefusal older newer bounds rounds by) ≡ 0 → isAccepted (checkCarry older newer bounds rounds by) ≡ true
