@@ -1,8 +1,8 @@
--- The three ways in which a file's judgement ends: the file is refused, or a start is, or every task has its answer. Assumes nothing.
-use mathlib.Core.Path.{_≡_, refl, sym, _∙_}
-use mathlib.Core.Bool.{true, false}
+-- The three ways in which a file's judgement ends: the file is refused, or a start is, or the answers go where the outputs have room. Assumes nothing.
+use mathlib.Core.Path.{_≡_, sym, _∙_}
+use mathlib.Core.Bool.{true}
 use mathlib.Core.List.{List}
-use Prim.Native.Nat.{ℕ, _≤_}
+use Prim.Native.Nat.{ℕ}
 use lib.ListN.{take}
 use Rattle.laws.specs.Idioms.{entry, filled}
 use Rattle.rules.specs.Judgement.{judge, misses}
