@@ -111,7 +111,7 @@ module _ (t : Table) (k start : ℕ) where
   unfolding judgeOne
   one-open passed = one-judgeable t k start passed
 
-  pub right-from : Judgeable t k start → Right t k (startOf t k start) (judge t k start .verdict)
+  right-from : Judgeable t k start → Right t k (startOf t k start) (judge t k start .verdict)
   unfolding roundsOf
   right-from j = judged-right t k start (startOf t k start) (start-right t k start j .right)
 
@@ -133,7 +133,7 @@ module _ (t : Table) (starts : List ℕ) (passed : isAccepted (judgeAll t starts
   pub answered : answerTo k (judgeAll t starts .answers) ≡ judge t k (entry 0 starts k)
   answered = all-answered t starts all-open k low high
 
-  pub judgeable : Judgeable t k (entry 0 starts k)
+  judgeable : Judgeable t k (entry 0 starts k)
   judgeable = all-judgeable t starts all-open k low high
 
 -- the fresh answers are those of each task alone
