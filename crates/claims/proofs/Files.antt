@@ -125,9 +125,10 @@ return-in-place = record {
   read-written = λ t out shape passed room. rw (written-part t out passed room) (written-read-back t shape passed);
   written-read = λ s out b ok room.
       let back = read-written-back s ok b in
-      let passed = read-accepted s (checked s ok) in
-      (written-length (reading s .table) out passed (rw back room) ∙ ap length back,
-      out-written (reading s .table) out passed (rw back room) ∙ ap (λ (l : List ℕ). l ++ drop (length l) out) back);
+      let passed = read-accepted s (checked s ok) in (
+        written-length (reading s .table) out passed (rw back room) ∙ ap length back,
+        out-written (reading s .table) out passed (rw back room) ∙ ap (λ (l : List ℕ). l ++ drop (length l) out) back,
+      );
   room = λ t shape passed. file-small shape passed;
   fits = length-fits;
   rest-stays = rest-kept;
