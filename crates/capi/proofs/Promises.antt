@@ -11,15 +11,16 @@ use Rattle.rules.specs.declared.Refusal.{Refusal}
 use Rattle.rules.specs.Chain.{_orElse_, isAccepted}
 use Rattle.rules.specs.Listing.{tableLines, refusedLine, listing}
 use Rattle.rules.specs.File.{formIn, coresIn, tasksIn, decode}
-use Rattle.rules.specs.Operations.{checkFile, reading, checkView}
+use Rattle.rules.specs.Operations.{checkFile, reading, checkView, checkBoth, isCarried, rejudging}
 use Rattle.facts.proofs.Chain.{both-accepted}
 use Rattle.facts.proofs.Accepted.{sound}
 use Rattle.facts.proofs.Reading.{decoded-accepted}
+use Rattle.facts.proofs.Starts.{accepted-judged}
 use Rattle.places.proofs.Places.{sets-limit, after-sets}
 use Rattle.plain.specs.Codes.{codeOf}
 use Rattle.plain.specs.Stored.{checkOutputs}
 use Rattle.recarry.specs.declared.CarryRefusal.{CarryRefusal}
-use Rattle.recarry.specs.Files.{tableNumber, checkFiles, faultyFile, checkCarry, carryRefusal, carryCode}
+use Rattle.recarry.specs.Files.{tableNumber, checkFiles, faultyFile, checkCarry, carryRefusal, carryCode, filesWorsen}
 use Rattle.capi.specs.Shown.{taskCount, recordPlace}
 use Rattle.capi.proofs.Shown.{tasks-there, record-there}
 
@@ -53,6 +54,16 @@ parts-back r h g e = rw e (omega arith, omega arith)
 pub carried-parts-back : (r : CarryRefusal) → r .refusal .number < 256 → r .refusal .place < 256 → isAccepted (r .refusal) ≡ false
     → (carryCode r % 256 ≡ r .refusal .number) × (carryCode r / 256 % 256 ≡ r .refusal .place) × (carryCode r / 65536 ≡ tableNumber (r .faulty))
 carried-parts-back r h g e = rw e (omega arith, omega arith, omega arith)
+
+-- "then ryb_carry begins at the older bounds"
+pub worsens-carried : (older newer : List ℕ) → isAccepted (checkFiles older newer) ≡ true
+    → filesWorsen older newer ≡ rejudging (decode older) (decode newer) .carried
+unfolding filesWorsen checkFiles rejudging isCarried checkBoth
+worsens-carried older newer e =
+    let (was, is) = both-accepted (checkFile older) (checkFile newer) e in
+    let old = accepted-judged (decode older) (decoded-accepted older was) in
+    let new = accepted-judged (decode newer) (decoded-accepted newer is) in
+    simp (was, is, old, new)
 
 -- "Returns 0, which no accepted file has"
 pub zero-no-tasks : (s : List ℕ) → taskCount s ≡ 0 → isAccepted (checkFile s) ≡ false
