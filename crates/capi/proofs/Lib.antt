@@ -1,5 +1,3 @@
--- The laws that the proofs of the functions cite, and what the promises say.
---     Shown     what is known of a file whose count and records may be shown
+-- What the promises of the C interface say.
 --     Promises  what a 0 says
-pub mod Shown
 pub mod Promises

@@ -21,8 +21,8 @@ use Rattle.plain.specs.Codes.{codeOf}
 use Rattle.plain.specs.Stored.{checkOutputs}
 use Rattle.recarry.specs.declared.CarryRefusal.{CarryRefusal}
 use Rattle.recarry.specs.Files.{tableNumber, checkFiles, faultyFile, checkCarry, carryRefusal, carryCode, filesWorsen}
-use Rattle.capi.specs.Shown.{taskCount, recordPlace}
-use Rattle.capi.proofs.Shown.{tasks-there, record-there}
+use Rattle.shown.specs.Shown.{taskCount, recordPlace}
+use Rattle.shown.proofs.Shown.{tasks-there, record-there}
 
 -- "Returns 0 where the file is accepted, else the refusal"
 pub zero-accepted : (r : Refusal) → codeOf r ≡ 0 → isAccepted r ≡ true

@@ -8,7 +8,7 @@ ghost use Rattle.plain.specs.Codes.{codeOf};
 ghost use Rattle.judged.specs.JudgedFile.{checkJudgedFile, JudgedFile};
 ghost use Rattle.recarry.specs.Files.{carryCode, carryRefusal, CarriedFiles, filesWorsen};
 ghost use Rattle.reasons.specs.Reasons.{reasonText};
-ghost use Rattle.capi.specs.Shown.{taskCount, recordPlace};
+ghost use Rattle.shown.specs.Shown.{taskCount, recordPlace};
 
 // The refusal of a table file, 0 where it is accepted.
 #[no_mangle]
@@ -23,11 +23,7 @@ pub extern "C" fn ryb_read(file: &[u8]) -> u16
 pub extern "C" fn ryb_tasks(file: &[u8]) -> usize
     ensures { λ r. ⌜ r ≡ taskCount (now (file .entry)) ⌝ }
 {
-    let refusal = file::check(file);
-    if refusal.number != 0 {
-        return 0;
-    }
-    places::size(file[2])
+    shown::task_count(file)
 }
 
 // Reads and judges all tasks. A refusal changes nothing.
@@ -66,11 +62,7 @@ pub extern "C" fn ryb_view(file: &[u8], task: u8) -> u16
 pub extern "C" fn ryb_record(file: &[u8], task: u8) -> usize
     ensures { λ r. ⌜ r ≡ recordPlace (now (file .entry)) task ⌝ }
 {
-    let refusal = file::view_refusal(file, task);
-    if refusal.number != 0 {
-        return 0;
-    }
-    places::record_at(file[3], file[0], places::size(task) - 1)
+    shown::record_place(file, task)
 }
 
 // Reads two files and judges the newer one's tasks after the older one. A refusal changes nothing.

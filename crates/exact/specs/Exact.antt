@@ -29,7 +29,7 @@ use Rattle.judged.specs.JudgedFile.{checkJudgedFile, JudgedFile}
 use Rattle.recarry.specs.declared.CarryRefusal.{CarryRefusal}
 use Rattle.recarry.specs.Files.{carryRefusal, carryCode, CarriedFiles, filesWorsen}
 use Rattle.reasons.specs.Reasons.{reasonText}
-use Rattle.capi.specs.Shown.{taskCount, recordPlace}
+use Rattle.shown.specs.Shown.{taskCount, recordPlace}
 
 -- a promise that allows one result; of an operation that is lent buffers, the result with their final bytes
 abbrev pub Exact : {A : Type 0} → (A → Type 0) → Type 0
@@ -75,6 +75,9 @@ pub record Promises : Type 0 where
   pub worsens-files : (older newer : List ℕ) → Exact (λ (r : Bool). r ≡ filesWorsen older newer)
   -- reasons
   pub reason : (number : ℕ) (out : List ℕ) → Exact (λ (r : ℕ × List ℕ). Given (reasonText number) out (r .0) (r .1))
+  -- shown
+  pub task-count : (s : List ℕ) → Exact (λ (r : ℕ). r ≡ taskCount s)
+  pub record-place : (s : List ℕ) (k : ℕ) → Exact (λ (r : ℕ). r ≡ recordPlace s k)
   -- the C interface
   pub ryb-read : (s : List ℕ) → Exact (λ (r : ℕ). r ≡ codeOf (checkFile s))
   pub ryb-tasks : (s : List ℕ) → Exact (λ (r : ℕ). r ≡ taskCount s)

@@ -1,4 +1,4 @@
--- `ryb_record` meets its contract. Assumes nothing.
+-- `record_place` meets its contract. Assumes nothing.
 use mathlib.Core.Path.{_≡_, _∙_, sym}
 use Prim.Native.Nat.{_+_, _-_}
 use native.Mathlib.Omega.{arith}
@@ -6,9 +6,9 @@ use borrow.Author.Needs.{needs}
 use borrow.Author.Tests.{eq-eqb}
 use Rattle.rules.specs.Operations.{checkView}
 use Rattle.file.proofs.Reading.{viewed-long, viewed-task}
-use Rattle.capi.proofs.Shown.{no-record, record-there}
-use Rattle.capi.proofs.ryb_record.Statement.{statement}
-use Rattle.capi.proofs.ryb_record.Tie as tie
+use Rattle.shown.proofs.Shown.{no-record, record-there}
+use Rattle.shown.proofs.record_place.Statement.{statement}
+use Rattle.shown.proofs.record_place.Tie as tie
 
 passes : (c : tie.Else1) → checkView (c .before .before .before .before .args .file .now) (c .before .before .before .before .args .task) .number ≡ 0
 passes c = rw (c .before .before .view-refusal .ensures) at (c .if1 .left)
@@ -24,8 +24,8 @@ returns-2 c =
     let back : z .size .result - 1 + 1 ≡ e .before .before .before .before .args .task = omega arith in
     c .record-at .ensures .0 ∙ rw back (sym (record-there _ _ (passes e)))
 
-pub ryb-record-spec : {M : Type 1} → statement M
-ryb-record-spec =
+pub record-place-spec : {M : Type 1} → statement M
+record-place-spec =
     tie.close
     (tie.spec (λ c κs. search needs) returns (λ c. omega (arith, viewed-long _ _ (eq-eqb _ _ (passes (c .before)))))
     (λ c. omega (arith, viewed-long _ _ (eq-eqb _ _ (passes (c .before .before))))) (λ c κs. search needs)

@@ -5,7 +5,7 @@ use Prim.Native.Nat.{ℕ}
 use borrow.Author.Tests.{eq-eqb, ne-eqb}
 use Rattle.rules.specs.File.{coresIn, tasksIn, formIn, recordAt}
 use Rattle.rules.specs.Operations.{checkFile, checkView}
-use Rattle.capi.specs.Shown.{taskCount, recordPlace}
+use Rattle.shown.specs.Shown.{taskCount, recordPlace}
 
 module _ (s : List ℕ) where
   pub no-tasks : (checkFile s .number ≡ 0 → ⊥) → taskCount s ≡ 0
