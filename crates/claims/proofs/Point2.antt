@@ -31,7 +31,7 @@ use Rattle.facts.proofs.Instance.{equation-of}
 use Rattle.facts.proofs.AllStarts.{none-refused, all-judgeable, all-answered, fresh-starts, all-fresh}
 use Rattle.facts.proofs.Points.{fresh-right, start-right}
 use Rattle.claims.specs.Files.{AcceptedTable}
-use Rattle.claims.specs.Point2.{AcceptedTask, answerTo, Decided, Right, PointTwo, HoldsFresh, SafeSide}
+use Rattle.claims.specs.Point2.{AcceptedTask, taskAnswer, Decided, Right, PointTwo, HoldsFresh, SafeSide}
 use Rattle.claims.proofs.NoRefusal.{one-plain}
 
 -- ---- a verdict with its delay, by what is right of the verdict
@@ -130,14 +130,14 @@ module _ (t : Table) (starts : List ℕ) (passed : isAccepted (judgeAll t starts
   unfolding judgeAll
   all-open = passed
 
-  pub answered : answerTo k (judgeAll t starts .answers) ≡ judge t k (entry 0 starts k)
+  pub answered : taskAnswer k (judgeAll t starts .answers) ≡ judge t k (entry 0 starts k)
   answered = all-answered t starts all-open k low high
 
   judgeable : Judgeable t k (entry 0 starts k)
   judgeable = all-judgeable t starts all-open k low high
 
 -- the fresh answers are those of each task alone
-pub fresh-answer : (t : Table) (k : ℕ) → AcceptedTask t k → answerTo k (judgeAll t freshStarts .answers) ≡ judgeOne t k 0 .answer
+pub fresh-answer : (t : Table) (k : ℕ) → AcceptedTask t k → taskAnswer k (judgeAll t freshStarts .answers) ≡ judgeOne t k 0 .answer
 fresh-answer t k task =
     let passed : isAccepted (judgeAll t freshStarts .refusal) ≡ true = rw (all-passed t (task .table)) in
     rw (answered t freshStarts passed k (task .first) (task .last), fresh-starts k, one-answered t k 0 (fresh-judgeable t k task))

@@ -34,7 +34,7 @@ use Rattle.facts.proofs.Points.{start-right, start-limit, carries, carried-judg
 use Rattle.facts.proofs.Worsened.{worsened}
 use Rattle.facts.proofs.Again.{rejudged-verdicts}
 use Rattle.claims.specs.Files.{AcceptedTable}
-use Rattle.claims.specs.Point2.{AcceptedTask, answerTo}
+use Rattle.claims.specs.Point2.{AcceptedTask, taskAnswer}
 use Rattle.claims.specs.Point3.{NewerWorse, outcomeOf, Counted, AnsweredFromOlder, FromOlder, PointThree, StartsMatter}
 use Rattle.claims.proofs.NoRefusal.{both-tables-plain}
 use Rattle.claims.proofs.Point2.{judged-right, one-passed, one-answered, one-open, answered, fresh-answer, fresh-judgeable}
@@ -107,12 +107,12 @@ module _ (older newer : Table) (w : NewerWorse older newer) where
     start : Judgeable newer k (olderBound older k)
     start = carried-judgeable older newer (w .older-accepted) (w .newer-accepted) (w .alike) k low in-older
 
-    answer-is : answerTo k (judgeAll newer (olderBounds older) .answers) ≡ judge newer k (olderBound older k)
+    answer-is : taskAnswer k (judgeAll newer (olderBounds older) .answers) ≡ judge newer k (olderBound older k)
     answer-is =
         answered newer (olderBounds older) (rw passed) k low high
         ∙ ap (judge newer k) (older-start older (w .older-accepted) k low in-older)
 
-    fresh-is : answerTo k (judgeAll newer freshStarts .answers) ≡ judge newer k 0
+    fresh-is : taskAnswer k (judgeAll newer freshStarts .answers) ≡ judge newer k 0
     fresh-is = fresh-answer newer k task ∙ one-answered newer k 0 (fresh-judgeable newer k task)
 
     no-more : judge newer k (olderBound older k) .rounds ≤ judge newer k 0 .rounds
@@ -123,14 +123,14 @@ module _ (older newer : Table) (w : NewerWorse older newer) where
     unfolding roundsOf
     correct = carries older newer (w .older-accepted) (w .newer-accepted) (w .alike) k low in-older .right
 
-    from-bound : AnsweredFromOlder older newer k (answerTo k (judgeAll newer (olderBounds older) .answers))
+    from-bound : AnsweredFromOlder older newer k (taskAnswer k (judgeAll newer (olderBounds older) .answers))
     from-bound = rw answer-is (record {
       right = judged-right newer k (olderBound older k) 1 correct;
       counted = counted newer k (olderBound older k) start;
       no-more = rw fresh-is no-more;
     })
 
-    alone : judgeOne newer k (olderBound older k) ≡ record { refusal = accepted; answer = answerTo k (judgeAll newer (olderBounds older) .answers) }
+    alone : judgeOne newer k (olderBound older k) ≡ record { refusal = accepted; answer = taskAnswer k (judgeAll newer (olderBounds older) .answers) }
     alone = rw answer-is (judged-both (one-passed newer k (olderBound older k) start) (one-answered newer k (olderBound older k) start))
 
   from-older : FromOlder older newer

@@ -29,8 +29,8 @@ pub record AcceptedTask (t : Table) (k : ℕ) : Type 0 where
   pub last : k ≤ t .tasks
 
 -- the answer to task number k among the answers to all
-abbrev pub answerTo : ℕ → List Answer → Answer
-answerTo k answers = entry (misses 0) answers k
+abbrev pub taskAnswer : ℕ → List Answer → Answer
+taskAnswer k answers = entry (misses 0) answers k
 
 -- which delay decided at R: "Equal delays count as request."
 pub record Decided (t : Table) (k R : ℕ) (by : Delay) : Type 0 where
@@ -56,12 +56,12 @@ pub record PointTwo : Type 0 where
   pub bound : (t : Table) (k : ℕ) → AcceptedTask t k → (R : ℕ)
       → ((by : Delay) × (judgeOne t k 0 .answer .verdict ≡ Holds (ps R) by)) ↔ IsBound t k R
   pub one : (t : Table) (k : ℕ) → AcceptedTask t k → Right t k 1 (judgeOne t k 0 .answer .verdict)
-  pub all : (t : Table) (k : ℕ) → AcceptedTask t k → Right t k 1 (answerTo k (judgeAll t freshStarts .answers) .verdict)
+  pub all : (t : Table) (k : ℕ) → AcceptedTask t k → Right t k 1 (taskAnswer k (judgeAll t freshStarts .answers) .verdict)
   -- "With a given start the answer is the least R at or above the start, up to D, with R = F(R)."
   pub one-from : (t : Table) (k start : ℕ) → isAccepted (judgeOne t k start .refusal) ≡ true
       → Right t k (startOf t k start) (judgeOne t k start .answer .verdict)
   pub all-from : (t : Table) (starts : List ℕ) → isAccepted (judgeAll t starts .refusal) ≡ true → (k : ℕ) → 1 ≤ k → k ≤ t .tasks
-      → Right t k (startOf t k (entry 0 starts k)) (answerTo k (judgeAll t starts .answers) .verdict)
+      → Right t k (startOf t k (entry 0 starts k)) (taskAnswer k (judgeAll t starts .answers) .verdict)
 
 -- task k holds from a fresh start, with a bound no later than R
 pub record HoldsFresh (t : Table) (k R : ℕ) : Type 0 where
@@ -75,4 +75,4 @@ pub record SafeSide : Type 0 where
   pub one : (t : Table) (k start : ℕ) → isAccepted (judgeOne t k start .refusal) ≡ true
       → (R : ℕ) (by : Delay) → judgeOne t k start .answer .verdict ≡ Holds (ps R) by → HoldsFresh t k R
   pub all : (t : Table) (starts : List ℕ) → isAccepted (judgeAll t starts .refusal) ≡ true → (k : ℕ) → 1 ≤ k → k ≤ t .tasks
-      → (R : ℕ) (by : Delay) → answerTo k (judgeAll t starts .answers) .verdict ≡ Holds (ps R) by → HoldsFresh t k R
+      → (R : ℕ) (by : Delay) → taskAnswer k (judgeAll t starts .answers) .verdict ≡ Holds (ps R) by → HoldsFresh t k R

@@ -18,7 +18,7 @@ use Rattle.rules.specs.Order.{worsens}
 use Rattle.rules.specs.Chain.{accepted, isAccepted}
 use Rattle.rules.specs.Operations.{judgeOne, judgeAll, freshStarts, olderBound, olderBounds, verdicts, rejudging}
 use Rattle.claims.specs.Files.{AcceptedTable}
-use Rattle.claims.specs.Point2.{Right, answerTo}
+use Rattle.claims.specs.Point2.{Right, taskAnswer}
 
 -- "Two accepted tables alike but that the newer may raise execution times and request counts and shorten periods"
 pub record NewerWorse (older newer : Table) : Type 0 where
@@ -45,13 +45,13 @@ pub record AnsweredFromOlder (older newer : Table) (k : ℕ) (a : Answer) : Type
   pub right : Right newer k 1 (a .verdict)
   pub counted : Counted newer k (olderBound older k) a
   -- "never more than fresh"
-  pub no-more : a .rounds ≤ answerTo k (judgeAll newer freshStarts .answers) .rounds
+  pub no-more : a .rounds ≤ taskAnswer k (judgeAll newer freshStarts .answers) .rounds
 
 -- "each task started from its older bound, or 0 where it missed": `olderBounds`
 pub record FromOlder (older newer : Table) : Type 0 where
   -- all older bounds together are accepted starts of the newer table
   pub not-refused : judgeAll newer (olderBounds older) .refusal ≡ accepted
-  pub each : (k : ℕ) → 1 ≤ k → k ≤ newer .tasks → AnsweredFromOlder older newer k (answerTo k (judgeAll newer (olderBounds older) .answers))
+  pub each : (k : ℕ) → 1 ≤ k → k ≤ newer .tasks → AnsweredFromOlder older newer k (taskAnswer k (judgeAll newer (olderBounds older) .answers))
   -- with the fresh verdicts
   pub same : verdicts (judgeAll newer (olderBounds older) .answers) ≡ verdicts (judgeAll newer freshStarts .answers)
   -- a newer table judged after an older one is judged from them
@@ -63,7 +63,7 @@ pub record PointThree : Type 0 where
   pub from-older : (older newer : Table) → NewerWorse older newer → FromOlder older newer
   -- one task: the same start is not refused and gives the same answer
   pub one : (older newer : Table) → NewerWorse older newer → (k : ℕ) → 1 ≤ k → k ≤ newer .tasks
-      → judgeOne newer k (olderBound older k) ≡ record { refusal = accepted; answer = answerTo k (judgeAll newer (olderBounds older) .answers) }
+      → judgeOne newer k (olderBound older k) ≡ record { refusal = accepted; answer = taskAnswer k (judgeAll newer (olderBounds older) .answers) }
   -- the course and the limit hold from every start that is not refused
   pub every-start : (t : Table) (k start : ℕ) → isAccepted (judgeOne t k start .refusal) ≡ true → Counted t k start (judgeOne t k start .answer)
   -- a newer table judged after any older one has its fresh verdicts
