@@ -20,8 +20,8 @@ use Rattle.rules.specs.declared.Verdict.the-variants.{Holds, Misses}
 use Rattle.rules.specs.Units.{ps}
 use Rattle.rules.specs.Judgement.{misses, withDelay}
 use Rattle.counts.proofs.Sums.{below-mono, asked-mono}
-use Rattle.climb.specs.Terms.{Terms, aboveOf, chargeOf, requestOf, jobOf, timeOf, byOf, applied}
-use Rattle.climb.specs.declared.Applied.{Applied}
+use Rattle.terms.specs.Terms.{Terms, aboveOf, chargeOf, requestOf, jobOf, timeOf, byOf, applied}
+use Rattle.terms.specs.declared.Applied.{Applied}
 use Rattle.climb.specs.declared.Climbed.{Climbed}
 use Rattle.climb.specs.Run.{lowestOf, startFrom, Ready, answerOf, isHigh, climbed}
 

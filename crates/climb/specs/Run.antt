@@ -5,9 +5,9 @@ use lib.Dec.{ltb}
 use Rattle.equation.specs.Rounds as rounds
 use Rattle.rules.specs.declared.Answer.{Answer}
 use Rattle.rules.specs.Judgement.{misses, withDelay}
-use Rattle.climb.specs.declared.Own.{Own}
+use Rattle.terms.specs.declared.Own.{Own}
 use Rattle.climb.specs.declared.Climbed.{Climbed}
-use Rattle.climb.specs.Terms.{Terms, timeOf, byOf, Fair}
+use Rattle.terms.specs.Terms.{Terms, timeOf, byOf, Fair}
 
 -- the lowest start
 unfoldable pub lowestOf : Own → ℕ

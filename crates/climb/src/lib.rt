@@ -1,15 +1,14 @@
-// F without overflow and its rounds, of plain terms: the tasks of all cores, core after core.
+// The rounds of F, of plain terms.
 ghost use mathlib.Core.Path.{_≡_};
-ghost use Prim.Native.Nat.{_*_, _^_, _≤_, min};
 ghost use Rattle.rules.specs.Tasks as Tasks;
-ghost use Rattle.counts.specs.Counts.{Small, Slots};
-ghost use Rattle.climb.specs.Terms.{Charged, Groups, Delayed, Fair, termsOf, applied};
+ghost use Rattle.counts.specs.Counts.{Small};
+ghost use Rattle.terms.specs.Terms.{termsOf};
 ghost use Rattle.climb.specs.Run.{Ready, lowestOf, climbed, endedAs};
 use rules::Answer;
-use rules::Delay;
 use rules::Picos;
 use rules::Task;
 use rules::Verdict;
+use terms::Own;
 
 // The latest allowed response.
 pub fn latest(task: Task) -> u64
@@ -18,128 +17,11 @@ pub fn latest(task: Task) -> u64
     task.deadline.0
 }
 
-// The product, or the largest u64 where it is larger than that.
-fn capped(a: u64, b: u64) -> u64
-    ensures { λ r. ⌜ r ≡ min (a * b) 18446744073709551615 ⌝ }
-{
-    if b == 0 {
-        return 0;
-    }
-    if a <= 18446744073709551615 / b {
-        a * b
-    } else {
-        18446744073709551615
-    }
-}
-
-// What the tasks of a core, those in places a to e, cost, each with the job that it carries in, at so much a request. Of a core whose requests
-// cost nothing, as the own core's, nothing is counted.
-fn charged(
-    a: usize,
-    e: usize,
-    periods: &[u64; 33],
-    invs: &[u64; 33],
-    asks: &[u64; 33],
-    weight: u64,
-    t: u64,
-) -> u64
-    requires { ⌜ (t ≤ 10 ^ 12) × (weight ≤ 2 * 10 ^ 7) × Small (now invs) ⌝ }
-    requires { ⌜ Slots (10 ^ 6) a e (now periods) (now asks) ⌝ }
-    ensures { λ r. ⌜ Charged a e (now (periods .entry)) (now (asks .entry)) weight t r ⌝ }
-{
-    if weight == 0 {
-        return 0;
-    }
-    counts::asked(a, e, periods, invs, asks, t) * weight
-}
-
-// The judged task's own figures: C, H and the latest allowed response; RD of its core, and the weight there of one request of each core; how
-// many cores there are; the place of its core's first task, and its own.
-pub struct Own {
-    pub exec: u64,
-    pub requests: u64,
-    pub latest: u64,
-    pub delay: Picos,
-    pub weight: [Picos; 8],
-    pub cores: usize,
-    pub first: usize,
-    pub place: usize,
-}
-
 // The lowest start.
 fn lowest(own: Own) -> u64
     ensures { λ r. ⌜ r ≡ lowestOf own ⌝ }
 {
     own.exec
-}
-
-// Job, core by core.
-fn job(
-    own: Own,
-    from: &[usize; 9],
-    periods: &[u64; 33],
-    invs: &[u64; 33],
-    asks: &[u64; 33],
-    t: u64,
-) -> u64
-    requires { ⌜ (t ≤ 10 ^ 12) × Small (now invs) ⌝ }
-    requires { ⌜ Groups own (now from) (now periods) (now asks) ⌝ }
-    ensures { λ r. ⌜ Delayed own (now (from .entry)) (now (periods .entry)) (now (asks .entry)) t r ⌝ }
-{
-    let mut sum: u64 = 0;
-    let mut q: usize = 0;
-    while q < own.cores {
-        sum += charged(
-            from[q],
-            from[q + 1],
-            periods,
-            invs,
-            asks,
-            own.weight[q].0,
-            t,
-        );
-        q += 1;
-    }
-    sum
-}
-
-// What F gives, and which of the two delays decided.
-pub struct Applied {
-    pub time: u64,
-    pub by: Delay,
-}
-
-// F. Request may be far above 64 bits; capped, it is above job where it was.
-fn apply(
-    own: Own,
-    from: &[usize; 9],
-    periods: &[u64; 33],
-    invs: &[u64; 33],
-    execs: &[u64; 33],
-    asks: &[u64; 33],
-    t: u64,
-) -> Applied
-    requires { ⌜ (t ≤ 10 ^ 12) × Small (now invs) ⌝ }
-    requires { ⌜ Fair (termsOf own (now from) (now periods) (now execs) (now asks)) ⌝ }
-    ensures { λ r. ⌜ r ≡ applied (termsOf own (now (from .entry)) (now (periods .entry)) (now (execs .entry)) (now (asks .entry))) t ⌝ }
-{
-    let higher = counts::asked_higher(own.first, own.place, periods, invs, execs, asks, t);
-    let exec = own.exec + higher.execs;
-    let requests = own.requests + higher.requests;
-    let delay = own.delay.0;
-    let request = capped(delay, requests);
-    let job = job(own, from, periods, invs, asks, t);
-    if request <= job {
-        Applied {
-            time: exec + request,
-            by: Delay::Request,
-        }
-    } else {
-        Applied {
-            time: exec + job,
-            by: Delay::Job,
-        }
-    }
 }
 
 // Whether F lowers the start that the rounds use, and the answer.
@@ -178,7 +60,7 @@ pub fn settle(
     let mut t = rules::most(lowest(own), given);
     let mut n: u64 = 1;
     loop {
-        let next = apply(own, from, periods, invs, execs, asks, t);
+        let next = terms::apply(own, from, periods, invs, execs, asks, t);
         if next.time == t {
             let by = next.by;
             return Climbed {

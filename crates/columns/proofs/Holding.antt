@@ -23,7 +23,7 @@ use Rattle.board.specs.Costs.{costsOf, noCosts, allCosts}
 use Rattle.groups.specs.Grouped.{placesOn, Ordered}
 use Rattle.groups.specs.Columns.{PerTask, InOrder, Columns}
 use Rattle.groups.proofs.PlacesOn.{places-none, places-next, places-few, places-first, own-within, own-place}
-use Rattle.climb.specs.Terms.{termsOf}
+use Rattle.terms.specs.Terms.{termsOf}
 use Rattle.climb.specs.Run.{Ready, climbed}
 use Rattle.rounds.specs.declared.Priced.{Priced}
 use Rattle.rounds.specs.Lent.{Lent, ownWith, placeAt, ownAt, termsAt, climbedAt, Judgeable}

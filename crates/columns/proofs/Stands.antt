@@ -30,7 +30,7 @@ use Rattle.laws.proofs.Places.{place-of}
 use Rattle.board.proofs.Bounds.{price-bounded}
 use Rattle.counts.specs.Counts.{sumBelow}
 use Rattle.counts.proofs.Sums.{below-next, below-same}
-use Rattle.climb.specs.Terms.{Terms, termsOf, chargeOf, aboveOf, requestOf, jobOf, timeOf, byOf, Group, Fair}
+use Rattle.terms.specs.Terms.{Terms, termsOf, chargeOf, aboveOf, requestOf, jobOf, timeOf, byOf, Group, Fair}
 use Rattle.climb.specs.Run.{lowestOf, Ready, answerOf, isHigh, climbed}
 use Rattle.rounds.specs.Lent.{ownWith}
 use Rattle.columns.specs.Numbered.{climbedFor}

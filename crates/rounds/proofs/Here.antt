@@ -8,7 +8,7 @@ use Rattle.laws.specs.Idioms.{entry}
 use Rattle.laws.proofs.Places.{getD-within}
 use Rattle.board.specs.declared.CoreCosts.{CoreCosts}
 use Rattle.board.specs.Costs.{noCosts}
-use Rattle.climb.specs.Terms.{Terms, termsOf}
+use Rattle.terms.specs.Terms.{Terms, termsOf}
 use Rattle.climb.specs.Run.{Ready, climbed}
 use Rattle.rounds.specs.Lent.{Lent, ownWith, placeAt, termsAt, climbedAt, Judgeable}
 

@@ -14,9 +14,9 @@ use Rattle.rules.specs.Operations.{noAnswers}
 use Rattle.board.specs.declared.CoreCosts.{CoreCosts}
 use Rattle.board.specs.Costs.{noCosts}
 use Rattle.groups.specs.Grouped.{placesOn}
-use Rattle.climb.specs.declared.Own.{Own}
+use Rattle.terms.specs.declared.Own.{Own}
 use Rattle.climb.specs.declared.Climbed.{Climbed}
-use Rattle.climb.specs.Terms.{Terms, termsOf}
+use Rattle.terms.specs.Terms.{Terms, termsOf}
 use Rattle.climb.specs.Run.{Ready, climbed}
 use Rattle.rounds.specs.declared.Priced.{Priced}
 

@@ -8,12 +8,12 @@ ghost use Rattle.rules.specs.Chain.{isAccepted};
 ghost use Rattle.rules.specs.Operations.{noAnswers};
 ghost use Rattle.rounds.specs.Lent.{Lent, ownWith, lentOf, Judgeable, firstAfter, judgedLent, noneJudged};
 use board::CoreCosts;
-use climb::Own;
 use rules::AllJudged;
 use rules::Answer;
 use rules::Refusal;
 use rules::Verdict;
 use rules::refused;
+use terms::Own;
 
 // How many tasks and cores there are, and what the cores cost each other.
 pub struct Priced {

@@ -3,7 +3,7 @@ use borrow.Author.Needs.{needs}
 use mathlib.Core.Path.{refl, _∙_}
 use Prim.Native.Nat.{_-_, max}
 use native.Mathlib.Omega.{arith}
-use Rattle.climb.specs.Terms.{termsOf}
+use Rattle.terms.specs.Terms.{termsOf}
 use Rattle.climb.specs.Run.{lowestOf}
 use Rattle.climb.proofs.Rises.{Going, going-first, going-next, last-holds, last-misses, lowered}
 use Rattle.climb.proofs.settle.Statement.{statement}

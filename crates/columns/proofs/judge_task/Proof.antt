@@ -6,7 +6,7 @@ use native.Mathlib.Omega.{arith}
 use lib.ListN.{getD}
 use Rattle.laws.specs.Idioms.{Within}
 use Rattle.groups.proofs.PlacesOn.{low-zeros}
-use Rattle.climb.specs.Terms.{Terms}
+use Rattle.terms.specs.Terms.{Terms}
 use Rattle.climb.specs.Run.{climbed}
 use Rattle.rounds.specs.Lent.{Lent, lentOf, placeAt, Judgeable}
 use Rattle.rounds.proofs.Here.{here-terms, here-ready, cost-at}

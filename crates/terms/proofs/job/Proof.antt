@@ -3,9 +3,9 @@ use borrow.Author.Needs.{needs}
 use mathlib.Core.Path.{_≡_}
 use Prim.Native.Nat.{_≤_, _-_}
 use native.Mathlib.Omega.{arith}
-use Rattle.climb.proofs.Cores.{Added, added-none, added-next}
-use Rattle.climb.proofs.job.Statement.{statement}
-use Rattle.climb.proofs.job.Tie as tie
+use Rattle.terms.proofs.Cores.{Added, added-none, added-next}
+use Rattle.terms.proofs.job.Statement.{statement}
+use Rattle.terms.proofs.job.Tie as tie
 
 abbrev Inv-loop : tie.InvT-loop
 Inv-loop from periods invs asks t own sum₀ q₀ sum q = (q ≤ own .cores) × Added own from periods asks t q sum

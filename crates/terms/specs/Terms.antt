@@ -9,8 +9,8 @@ use Rattle.rules.specs.declared.Delay.{Delay}
 use Rattle.rules.specs.declared.Delay.the-variants.{Request, Job}
 use Rattle.rules.specs.Units.{ps}
 use Rattle.counts.specs.Counts.{sumBelow, askedBy, Slots}
-use Rattle.climb.specs.declared.Own.{Own}
-use Rattle.climb.specs.declared.Applied.{Applied}
+use Rattle.terms.specs.declared.Own.{Own}
+use Rattle.terms.specs.declared.Applied.{Applied}
 
 -- "A(q, t)" at so much a request
 pub record Charged (a e : ℕ) (periods asks : List ℕ) (weight t r : ℕ) : Type 0 where

@@ -2,8 +2,8 @@
 use borrow.Author.Needs.{needs}
 use native.Mathlib.Omega.{arith}
 use native.Mathlib.Nat.{mul-zero, le-div-iff-mul-le, div-lt-iff-lt-mul}
-use Rattle.climb.proofs.capped.Statement.{statement}
-use Rattle.climb.proofs.capped.Tie as tie
+use Rattle.terms.proofs.capped.Statement.{statement}
+use Rattle.terms.proofs.capped.Tie as tie
 
 pub capped-spec : {M : Type 1} → statement M
 capped-spec =

@@ -1,10 +1,10 @@
 -- F by its parts. Assumes nothing.
 use borrow.Author.Needs.{needs}
 use native.Mathlib.Omega.{arith}
-use Rattle.climb.specs.Terms.{jobOf}
-use Rattle.climb.proofs.Cut.{by-request, by-job}
-use Rattle.climb.proofs.apply.Statement.{statement}
-use Rattle.climb.proofs.apply.Tie as tie
+use Rattle.terms.specs.Terms.{jobOf}
+use Rattle.terms.proofs.Cut.{by-request, by-job}
+use Rattle.terms.proofs.apply.Statement.{statement}
+use Rattle.terms.proofs.apply.Tie as tie
 
 returns : tie.Need-returns
 unfolding jobOf

@@ -7,8 +7,8 @@ use lib.ListN.{getD}
 use Rattle.rules.specs.Units.{ps}
 use Rattle.counts.specs.Counts.{sumBelow}
 use Rattle.counts.proofs.Sums.{below-next}
-use Rattle.climb.specs.declared.Own.{Own}
-use Rattle.climb.specs.Terms.{chargeOf, Group, Charged}
+use Rattle.terms.specs.declared.Own.{Own}
+use Rattle.terms.specs.Terms.{chargeOf, Group, Charged}
 
 -- what the cores before place q cost: at most so much for each of their tasks
 pub record Added (own : Own) (begins periods asks : List ℕ) (t q s : ℕ) : Type 0 where

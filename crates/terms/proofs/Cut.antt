@@ -6,8 +6,8 @@ use native.Mathlib.Omega.{arith}
 use lib.Dec.{leb}
 use borrow.Author.Tests.{le-leb, lt-leb}
 use Rattle.rules.specs.declared.Delay.the-variants.{Request, Job}
-use Rattle.climb.specs.declared.Applied.{Applied}
-use Rattle.climb.specs.Terms.{Terms, aboveOf, requestOf, jobOf, timeOf, byOf, applied}
+use Rattle.terms.specs.declared.Applied.{Applied}
+use Rattle.terms.specs.Terms.{Terms, aboveOf, requestOf, jobOf, timeOf, byOf, applied}
 
 module _ (m : Terms) (t : ℕ) {execs asked request job top : ℕ} (exec-is : execs ≡ aboveOf m (m .execs) t) (asked-is : asked ≡ aboveOf m (m .asks) t)
     (cut : request ≡ min (m .own .delay .0 * (m .own .requests + asked)) top) (is : job ≡ jobOf m t) (small : job < top) where

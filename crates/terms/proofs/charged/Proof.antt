@@ -3,8 +3,8 @@ use borrow.Author.Needs.{needs}
 use Prim.Native.Nat.{zero-le, _≤_, _-_, _*_, _^_}
 use native.Mathlib.Nat.{mul-zero, mul-le-mul}
 use native.Mathlib.Omega.{arith}
-use Rattle.climb.proofs.charged.Statement.{statement}
-use Rattle.climb.proofs.charged.Tie as tie
+use Rattle.terms.proofs.charged.Statement.{statement}
+use Rattle.terms.proofs.charged.Tie as tie
 
 cost-high : (c : tie.After-asked) → c .asked .result * c .before .before .args .weight ≤ (c .before .before .args .e - c .before .before .args .a) * (10001 * (2 * 10 ^ 13))
 cost-high c = omega (arith, mul-le-mul (c .asked .ensures .high) (c .before .before .pre .0 .1))

@@ -1,0 +1,3 @@
+-- What the contracts of F cite beside the rules.
+--     Terms  the equation of one task from plain lists
+pub mod Terms
