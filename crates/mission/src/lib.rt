@@ -1,14 +1,15 @@
-// The mission's sentences on the operations themselves: each function makes the calls that a sentence speaks of, and its contract is the sentence.
-// Nobody has to call these; they are here to be proved.
+// The mission's sentences on the operations themselves: each function makes the calls that a sentence speaks of, and its contract says
+// what it gives and then the sentence. Nobody has to call these; they are here to be proved.
 ghost use mathlib.Core.Path.{_≡_};
 ghost use mathlib.Core.Logic.{_≢_};
 ghost use mathlib.Core.Bool.{false};
 ghost use Prim.Native.Nat.{_<_};
-ghost use lib.ListN.{length, getD};
+ghost use lib.ListN.{length, take, getD, set, replicate};
 ghost use Rattle.rules.specs.Chain.{accepted, isAccepted};
+ghost use Rattle.rules.specs.Operations.{checkFile, reading, writing, outAfter, judgeAll, freshStarts, rejudging};
 ghost use Rattle.claims.specs.Files.{AcceptedFile, AcceptedTable, cleared};
 ghost use Rattle.claims.specs.Point3.{NewerWorse};
-ghost use Rattle.mission.specs.Written.{WrittenBack};
+ghost use Rattle.mission.specs.Written.{writtenTo, WrittenBack};
 ghost use Rattle.mission.specs.Judged.{JudgedRight, CarriedRight};
 use rules::AllJudged;
 use rules::Picos;
@@ -19,6 +20,7 @@ use rules::Table;
 
 // "No accepted table file is accepted when cut short": the first n bytes of a file.
 pub fn cut_short(file: &[u8], n: usize) -> Refusal
+    ensures { λ r. ⌜ r ≡ checkFile (take n (now (file .entry))) ⌝ }
     ensures { λ r. ⌜ (AcceptedFile (now (file .entry)) → n < length (now (file .entry)) → isAccepted r ≡ false) ⌝ }
 {
     if n < file.len() {
@@ -29,6 +31,7 @@ pub fn cut_short(file: &[u8], n: usize) -> Refusal
 
 // "nor with any one byte altered": byte i of a file becomes b.
 pub fn altered(file: &mut [u8], i: usize, b: u8) -> Refusal
+    ensures { λ r. ⌜ (now (file .exit) ≡ set (now (file .entry)) i b) × (r ≡ checkFile (now (file .exit))) ⌝ }
     ensures { λ r. ⌜ (AcceptedFile (now (file .entry)) → i < length (now (file .entry)) → b ≢ getD (now (file .entry)) i 0 → isAccepted r ≡ false) ⌝ }
 {
     if file.len() <= i {
@@ -40,6 +43,7 @@ pub fn altered(file: &mut [u8], i: usize, b: u8) -> Refusal
 
 // "Reading a written table returns it, unused places zero". No accepted table takes more than 990 bytes.
 pub fn written_then_read(t: Table) -> Read
+    ensures { λ r. ⌜ r ≡ reading (writtenTo (replicate 990 0) t) ⌝ }
     ensures { λ r. ⌜ (AcceptedTable t → r ≡ record { refusal = accepted; table = cleared t }) ⌝ }
 {
     let mut room = [0u8; 990];
@@ -49,6 +53,8 @@ pub fn written_then_read(t: Table) -> Read
 
 // "writing a read one returns the file": the length that was written, and the bytes in a buffer that has room for them.
 pub fn read_then_written(file: &[u8], out: &mut [u8]) -> usize
+    ensures { λ r. ⌜ r ≡ writing (reading (now (file .entry)) .table) (now (out .entry)) .length ⌝ }
+    ensures { λ _. ⌜ now (out .exit) ≡ outAfter (reading (now (file .entry)) .table) (now (out .entry)) ⌝ }
     ensures { λ r. ⌜ WrittenBack (now (file .entry)) (now (out .entry)) r (now (out .exit)) ⌝ }
 {
     let read = file::read(file);
@@ -59,6 +65,7 @@ pub fn read_then_written(file: &[u8], out: &mut [u8]) -> usize
 
 // "A task's bound is the smallest whole time from 1 to its deadline that satisfies the response equation; it misses exactly if there is none."
 pub fn judged_fresh(t: Table) -> AllJudged
+    ensures { λ r. ⌜ r ≡ judgeAll t freshStarts ⌝ }
     ensures { λ r. ⌜ (AcceptedTable t → JudgedRight t r) ⌝ }
 {
     judge::judge_all(t, [Picos(0); 32])
@@ -67,6 +74,7 @@ pub fn judged_fresh(t: Table) -> AllJudged
 // "each task started from its older bound, or 0 where it missed: verdict and bound are point 2's for the newer table; the rounds are the
 // equation's from that start, never more than fresh, and at most .."
 pub fn carried(older: Table, newer: Table) -> Rejudged
+    ensures { λ r. ⌜ r ≡ rejudging older newer ⌝ }
     ensures { λ r. ⌜ (NewerWorse older newer → CarriedRight older newer r) ⌝ }
 {
     rejudge::judge_carried(older, newer)

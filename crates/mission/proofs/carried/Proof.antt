@@ -5,14 +5,16 @@ use Rattle.mission.proofs.carried.Statement.{statement}
 use Rattle.mission.proofs.carried.Tie as tie
 
 returns : tie.Need-returns
-returns c worse =
+returns c =
     let a = c .before .args in
-    let claim = point-three .from-older (a .older) (a .newer) worse in
-    rw (c .judge-carried .ensures .is) (record {
-      not-refused = claim .again-accepted;
-      carried = claim .again-carried;
-      each = rw (claim .again-answers) (claim .each);
-    })
+    let is = c .judge-carried .ensures .is in (
+      is,
+      λ worse. let claim = point-three .from-older (a .older) (a .newer) worse in rw is (record {
+        not-refused = claim .again-accepted;
+        carried = claim .again-carried;
+        each = rw (claim .again-answers) (claim .each);
+      }),
+    )
 
 pub carried-spec : {M : Type 1} → statement M
 carried-spec = tie.close (tie.spec (λ c κs. search needs) returns)

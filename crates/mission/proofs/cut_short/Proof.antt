@@ -2,7 +2,7 @@
 use borrow.Author.Needs.{needs}
 use mathlib.Core.Path.{sym}
 use native.Mathlib.Omega.{arith}
-use lib.Seq.{length-take-le}
+use lib.Seq.{length-take-le, take-all}
 use Rattle.rules.specs.Operations.{reading}
 use Rattle.claims.proofs.Files.{damage}
 use Rattle.mission.proofs.cut_short.Statement.{statement}
@@ -10,12 +10,14 @@ use Rattle.mission.proofs.cut_short.Tie as tie
 
 returns : tie.Need-returns
 unfolding reading
-returns c whole short =
+returns c =
     let a = c .before .before .before .before .args in
-    rw (c .check .ensures) (damage .cut-short (a .file .now) whole (a .n) short)
+    (c .check .ensures, λ whole short. rw (c .check .ensures) (damage .cut-short (a .file .now) whole (a .n) short))
 
 returns-2 : tie.Need-returns-2
-returns-2 c whole short = absurd (omega (arith, c .before .if1 .left))
+returns-2 c =
+    let a = c .before .before .before .args in
+    (rw (take-all (a .n) (a .file .now) (omega (arith, c .before .if1 .left))) (c .check2 .ensures), λ whole short. absurd (omega (arith, c .before .if1 .left)))
 
 pub cut-short-spec : {M : Type 1} → statement M
 cut-short-spec =

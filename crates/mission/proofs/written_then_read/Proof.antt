@@ -21,12 +21,12 @@ fits c =
     omega (arith, c .write .kept, answered, return-in-place .fits (c .before .before .args .t) (replicate 990 0))
 
 returns : tie.Need-returns
-returns c table =
+returns c =
     let written = c .before .before .before in
     let start = written .before .before in
     let wrote = written .write .ensures in
-    rw (c .read .ensures, wrote .answered, wrote .stored)
-    (return-in-place .read-written (start .args .t) _ (shape start) table (omega (arith, return-in-place .room (start .args .t) (shape start) table)))
+    let is = rw (wrote .answered, wrote .stored) at (c .read .ensures) in
+    (is, λ table. rw is (return-in-place .read-written (start .args .t) (replicate 990 0) (shape start) table (omega (arith, return-in-place .room (start .args .t) (shape start) table))))
 
 pub written-then-read-spec : {M : Type 1} → statement M
 written-then-read-spec =
