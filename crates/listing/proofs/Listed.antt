@@ -1,16 +1,12 @@
 -- What is listed for a file, by what reading it gave: a refusal's line, or the lines of the table. Assumes nothing.
 use mathlib.Core.Path.{_≡_}
-use mathlib.Core.Bool.{true}
 use mathlib.Core.List.{List}
 use Prim.Native.Nat.{ℕ}
 use lib.ListN.{replicate}
 use borrow.Author.Tests.{eq-eqb, ne-eqb}
 use Rattle.rules.specs.declared.Read.{Read}
-use Rattle.rules.specs.Chain.{isAccepted}
-use Rattle.rules.specs.Refusals.{checkTable}
 use Rattle.rules.specs.Operations.{reading, judgeAll}
 use Rattle.rules.specs.Listing.{tableLines, listing, refusedLine}
-use Rattle.facts.proofs.Reading.{read-accepted}
 
 module _ (s : List ℕ) (r : Read) (read : r ≡ reading s) where
   pub listed-refused : (r .refusal .number ≡ 0 → ⊥) → listing s ≡ refusedLine (r .refusal .number)
@@ -18,10 +14,6 @@ module _ (s : List ℕ) (r : Read) (read : r ≡ reading s) where
   listed-refused h = rw (← read, ne-eqb _ 0 h)
 
   module _ (h : r .refusal .number ≡ 0) where
-    pub table-accepted : isAccepted (checkTable (r .table)) ≡ true
-    unfolding reading
-    table-accepted = rw read (read-accepted s (rw read at (eq-eqb (r .refusal .number) 0 h)))
-
     pub listed-table : listing s ≡ tableLines (r .table) (judgeAll (r .table) (replicate 32 0) .answers)
     unfolding listing
     listed-table = rw (← read, eq-eqb (r .refusal .number) 0 h)

@@ -13,11 +13,10 @@ use Rattle.rules.specs.declared.Faulty.the-variants.{Neither, Older, Newer}
 use Rattle.rules.specs.Judgement.{judge, misses, boundOf}
 use Rattle.rules.specs.Chain.{isAccepted}
 use Rattle.rules.specs.Order.{worsens}
-use Rattle.rules.specs.Refusals.{checkTable}
 use Rattle.rules.specs.File.{tasksIn, decode}
 use Rattle.rules.specs.Operations.{checkFile, reading, answersFrom, fresh, verdicts, checkBoth, rejudging}
-use Rattle.facts.proofs.Chain.{passes, refuses}
-use Rattle.facts.proofs.Reading.{decoded-accepted, read-table}
+use Rattle.facts.proofs.Reading.{decoded-accepted}
+use Rattle.file.proofs.WasRead.{refusal-of, not-accepted}
 use Rattle.facts.proofs.Starts.{accepted-judged}
 use Rattle.facts.proofs.Again.{rejudged-verdicts}
 use Rattle.laws.proofs.Filled.{take-filled}
@@ -27,26 +26,6 @@ use Rattle.plain.proofs.Laid.{unchanged}
 use Rattle.judged.specs.JudgedFile.{answersOf}
 use Rattle.recarry.specs.declared.CarryRefusal.{CarryRefusal}
 use Rattle.recarry.specs.Files.{checkFiles, faultyFile, checkCarry, carryRefusal, carriedAnswers, CarriedFiles, filesWorsen}
-
--- ---- a file that was read
-
-module _ (s : List ℕ) {r : Read} (is : r ≡ reading s) where
-  refusal-of : r .refusal ≡ checkFile s
-  unfolding reading
-  refusal-of = ap (λ (x : Read). x .refusal) is
-
-  pub not-accepted : (r .refusal .number ≡ 0 → ⊥) → isAccepted (checkFile s) ≡ false
-  not-accepted = refuses refusal-of
-
-  module _ (passed : r .refusal .number ≡ 0) where
-    pub was-accepted : isAccepted (checkFile s) ≡ true
-    was-accepted = passes refusal-of passed
-
-    pub table-of : r .table ≡ decode s
-    table-of = ap (λ (x : Read). x .table) is ∙ read-table s was-accepted
-
-    pub table-accepted : isAccepted (checkTable (r .table)) ≡ true
-    table-accepted = rw table-of (decoded-accepted s was-accepted)
 
 -- ---- the verdicts of a judgement after an older file are those of a fresh one
 

@@ -4,7 +4,8 @@ use mathlib.Core.Bool.{true}
 use borrow.Author.Needs.{needs}
 use Rattle.rules.specs.Chain.{isAccepted}
 use Rattle.rules.specs.Operations.{checkFile}
-use Rattle.recarry.proofs.Carrying.{was-accepted, table-of, table-accepted, older-refused, newer-refused, files-judged}
+use Rattle.file.proofs.WasRead.{was-accepted, table-of, table-accepted}
+use Rattle.recarry.proofs.Carrying.{older-refused, newer-refused, files-judged}
 use Rattle.recarry.proofs.carry_files.Statement.{statement}
 use Rattle.recarry.proofs.carry_files.Tie as tie
 

@@ -4,7 +4,8 @@ use mathlib.Core.Bool.{true}
 use borrow.Author.Needs.{needs}
 use Rattle.rules.specs.Chain.{isAccepted}
 use Rattle.rules.specs.Operations.{checkFile}
-use Rattle.recarry.proofs.Carrying.{not-accepted, was-accepted, table-of, older-none, newer-none, both-read}
+use Rattle.file.proofs.WasRead.{not-accepted, was-accepted, table-of}
+use Rattle.recarry.proofs.Carrying.{older-none, newer-none, both-read}
 use Rattle.recarry.proofs.worsens_files.Statement.{statement}
 use Rattle.recarry.proofs.worsens_files.Tie as tie
 
