@@ -6,7 +6,7 @@ use crate::judge::{Answer, By, Judge, Verdict};
 use crate::listing::listing;
 use crate::refusal::Refusal;
 
-/// The number of an output that is too short for the tasks, which document 01 doesn't have.
+/// The number of an output that is too short for the tasks, which only the C functions refuse.
 pub const SHORT_OUTPUT: u8 = 255;
 
 /// `ryb_read`.

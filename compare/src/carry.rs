@@ -1,9 +1,9 @@
-//! A newer table after an older one, by point 3 of the document: is it the older one worsened, and its answers.
+//! A newer table after an older one: is it the older one worsened, and its answers.
 
 use crate::judge::{Answer, Judge, Verdict};
 use crate::table::{Table, Task, TASKS};
 
-/// "Two accepted tables alike but that the newer may raise execution times and request counts and shorten periods."
+/// RULES 6.4, of two accepted tables.
 pub fn worsens(older: &Table, newer: &Table) -> bool {
     older.partitions == newer.partitions
         && older.timing == newer.timing
@@ -16,7 +16,7 @@ fn worse(was: &Task, is: &Task) -> bool {
     (was.core, was.d) == (is.core, is.d) && was.c <= is.c && was.h <= is.h && was.t >= is.t
 }
 
-/// The newer table's answers: each task from its older bound, or 0 where it missed, if the table is the older one worsened; else fresh.
+/// RULES 6.5: the newer table's answers, from the older bounds if it is the older one worsened, else fresh.
 pub fn answers(older: &Table, newer: &Table) -> [Answer; TASKS] {
     let starts: Vec<u64> =
         if worsens(older, newer) { fresh(older).iter().map(older_bound).collect() } else { Vec::new() };
@@ -40,7 +40,7 @@ mod tests {
     use crate::file;
     use crate::gen::{self, Rng};
 
-    /// Point 3: the same verdicts and bounds as fresh, in no more rounds, and somewhere in fewer.
+    /// RULES 6.6; and somewhere the rounds are fewer.
     #[test]
     fn carried_answers_are_the_fresh_ones() {
         let mut rng = Rng::new(3);

@@ -298,7 +298,7 @@ fn file_with_running_sum(running: u64) -> Vec<u8> {
     file
 }
 
-/// The examples of document 01, whole and damaged at every byte.
+/// The tables of RULES 11.4 to 11.7, whole and damaged at every byte.
 fn examples(on: &mut Comparer) -> Outcome {
     let second = 1_000_000_000;
     let task = |core, c, t, h| Task { core, c, t, d: t, h };

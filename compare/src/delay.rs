@@ -29,7 +29,7 @@ impl Timing {
         Timing { tck, trp, trcd, cl, wl, bl, twtr, twr, trrd, tfaw, tras, trtp, trtrs, ncols, ncap }
     }
 
-    /// The five relations that document 003 relies on, in their order: whether each holds.
+    /// The five relations of RULES 2.5: whether each holds.
     pub fn relations(&self) -> [bool; 5] {
         [
             self.twr >= self.twtr,

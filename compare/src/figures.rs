@@ -1,4 +1,4 @@
-//! "Figures to agree with" of document 01, as tests of the own reading.
+//! The figures of RULES 11, and some of our own, as tests of the own reading.
 
 use crate::answers;
 use crate::delay::{Delays, Timing};
@@ -28,7 +28,7 @@ fn bytes(table: &Table) -> Vec<u8> {
     out[..length].to_vec()
 }
 
-/// The table whose listing document 01 gives.
+/// The listed table (RULES 11.4).
 fn listed() -> Table {
     let tasks = [
         task(1, 1_000_000_000, 10_000_000_000, 1000),

@@ -1,6 +1,6 @@
-//! An independent reading of the scope document (document 01), to compare the proved library with.
+//! An independent reading of `docs/RULES.md`, to compare the proved library with.
 //!
-//! Nothing here is shared with the project: it is plain Rust, with sums in `u128`, and follows the document's own order.
+//! Nothing here is shared with the project: it is plain Rust, with sums in `u128`, and follows the order of those rules.
 
 pub mod answers;
 pub mod carry;

@@ -1,6 +1,6 @@
 //! What is said of input that is refused.
 
-/// A refusal: its number in document 01, and the first figure, core or task at fault (from 1), else 0.
+/// A refusal: its number (RULES 9.3), and the first figure, relation, core or task at fault (from 1), else 0.
 #[derive(Clone, Copy, Debug, PartialEq, Eq)]
 pub struct Refusal {
     pub number: u8,

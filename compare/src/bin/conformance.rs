@@ -1,6 +1,6 @@
 //! Replays a stream of conformance cases through the own reading, and compares with the stored answers.
 //!
-//! `conformance STDIN STDOUT`: the two files of a stream, in the form that its FORMAT.md states.
+//! `conformance STDIN STDOUT`: the two files of a stream, in the form that `crates/conform/README.md` states.
 
 use std::env;
 use std::fs;

@@ -21,7 +21,7 @@ fn answers(table: Table, starts: [u64; 32]) -> [Answer; 32]
     all
 }
 
-// "each task started from its older bound, or 0 where it missed"
+// RULES 6.5: the starts that the older table gives.
 fn older_starts(older: Table) -> [u64; 32]
     requires { ⌜ isAccepted (checkTable older) ≡ true ⌝ }
     ensures { λ r. ⌜ r ≡ olderBounds older ⌝ }

@@ -1,4 +1,4 @@
-// Near and far from the sets of partitions, and what a request of each core costs: the rules of "Delay figures" by cores, as numbers.
+// Near and far from the sets of partitions, and what a request of each core costs: RULES 4 core by core, as numbers.
 ghost use mathlib.Core.Path.{_≡_};
 ghost use Prim.Native.Nat.{_-_, _*_, _/_, _%_, _^_, _≤_};
 ghost use lib.Count.{ones};

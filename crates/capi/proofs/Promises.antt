@@ -24,7 +24,7 @@ use Rattle.recarry.specs.Files.{tableNumber, checkFiles, faultyFile, checkCarry
 use Rattle.shown.specs.Shown.{taskCount, recordPlace}
 use Rattle.shown.proofs.Shown.{tasks-there, record-there}
 
--- "Returns 0 where the file is accepted, else the refusal"
+-- ryb_read, ryb_judge and ryb_view: nothing is refused
 pub zero-accepted : (r : Refusal) → codeOf r ≡ 0 → isAccepted r ≡ true
 zero-accepted r e = go (isAccepted r) refl e
   where
@@ -32,7 +32,7 @@ zero-accepted r e = go (isAccepted r) refl e
     go true is e = refl
     go false is e = absurd (omega (arith, eqb-false (r .number) 0 is))
 
--- "Returns 0 where all tasks are judged", and only there
+-- ryb_carry: all tasks are judged, and 0 is returned only there
 module _ (older newer bounds rounds by : List ℕ) where
   pub zero-carried : carryCode (carryRefusal older newer bounds rounds by) ≡ 0 → isAccepted (checkCarry older newer bounds rounds by) ≡ true
   unfolding carryRefusal
@@ -55,7 +55,7 @@ pub carried-parts-back : (r : CarryRefusal) → r .refusal .number < 256 → r .
     → (carryCode r % 256 ≡ r .refusal .number) × (carryCode r / 256 % 256 ≡ r .refusal .place) × (carryCode r / 65536 ≡ tableNumber (r .faulty))
 carried-parts-back r h g e = rw e (omega arith, omega arith, omega arith)
 
--- "then ryb_carry begins at the older bounds"
+-- ryb_worsens says whether ryb_carry begins at the older bounds
 pub worsens-carried : (older newer : List ℕ) → isAccepted (checkFiles older newer) ≡ true
     → filesWorsen older newer ≡ rejudging (decode older) (decode newer) .carried
 unfolding filesWorsen checkFiles rejudging isCarried checkBoth
@@ -65,7 +65,7 @@ worsens-carried older newer e =
     let new = accepted-judged (decode newer) (decoded-accepted newer is) in
     simp (was, is, old, new)
 
--- "Returns 0, which no accepted file has"
+-- ryb_tasks: the file is refused, as an accepted one has a task
 pub zero-no-tasks : (s : List ℕ) → taskCount s ≡ 0 → isAccepted (checkFile s) ≡ false
 unfolding decode
 zero-no-tasks s e = go (ℕ-discrete (checkFile s .number) 0)
@@ -74,7 +74,7 @@ zero-no-tasks s e = go (ℕ-discrete (checkFile s .number) 0)
     go (yes passes) = absurd (omega (arith, tasks-there s passes, sound (decode s) (decoded-accepted s (eq-eqb _ _ passes)) .tasks-in .low))
     go (no refused) = ne-eqb _ _ refused
 
--- "Returns 0, which is the offset of no record"
+-- ryb_record: the view is refused, as no record starts there
 pub zero-no-record : (s : List ℕ) (k : ℕ) → recordPlace s k ≡ 0 → isAccepted (checkView s k) ≡ false
 zero-no-record s k e = go (ℕ-discrete (checkView s k .number) 0)
   where
@@ -82,7 +82,7 @@ zero-no-record s k e = go (ℕ-discrete (checkView s k .number) 0)
     go (yes passes) = absurd (omega (arith, record-there s k passes, after-sets (formIn s) (coresIn s) k, sets-limit (formIn s)))
     go (no refused) = ne-eqb _ _ refused
 
--- "Returns the length of the listing, which is never 0"
+-- ryb_list: the listing does not fit, as none is empty
 listed-some : (s : List ℕ) (b : Bool) → isAccepted (reading s .refusal) ≡ b → 1 ≤ length (listing s)
 unfolding listing tableLines refusedLine
 listed-some s true e = rw e (suc-le-suc zero-le)

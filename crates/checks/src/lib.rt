@@ -9,7 +9,7 @@ use rules::Table;
 use rules::refused;
 use tasks::outside;
 
-// "Cores 1 to 8, partitions 1 to 16, tasks 1 to 32", and the fourth byte.
+// Is a count outside its limits, or the fourth byte not 0 (RULES 2.1)?
 fn counts_fault(cores: u8, partitions: u8, tasks: u8, fourth: u8) -> bool
     ensures { λ r. ⌜ r ≡ countsFault cores partitions tasks fourth ⌝ }
 {
@@ -41,7 +41,7 @@ fn set_fault(partitions: u8, set: u16) -> bool
     false
 }
 
-// 8 "a core's set is empty or names a partition above the count"
+// Refusal 8 (RULES 9.3), with the first core whose set is at fault (RULES 2.3).
 fn check_sets(cores: u8, partitions: u8, sets: &[u16; 8]) -> Refusal
     requires { ⌜ (cores ≤ 8) × (partitions ≤ 16) ⌝ }
     ensures { λ r. ⌜ r ≡ first 8 (λ p. setFault partitions (entry 0 (now (sets .entry)) p)) cores ⌝ }
@@ -85,7 +85,7 @@ pub fn check_board(t: Table) -> Refusal
     board_refusal(t.cores, t.partitions, t.tasks, t.fourth, row, &sets)
 }
 
-// "a table passed directly meets 5 to 11"
+// 5 to 11: what a table passed directly meets (RULES 9.4).
 pub fn check(t: Table) -> Refusal
     ensures { λ r. ⌜ r ≡ checkTable t ⌝ }
 {

@@ -13,7 +13,7 @@ use Rattle.terms.specs.Terms.{Terms, timeOf, byOf, Fair}
 unfoldable pub lowestOf : Own → ℕ
 lowestOf own = own .exec
 
--- "the start is the larger of C and the given start"
+-- the start that the rounds use: RULES 6.1
 abbrev pub startFrom : Terms → ℕ → ℕ
 startFrom m given = max (lowestOf (m .own)) given
 
@@ -23,7 +23,7 @@ answerOf m given =
     let run = rounds.solve (timeOf m) (lowestOf (m .own)) (m .own .latest) given in
     record { verdict = withDelay (byOf m) (run .verdict); rounds = run .rounds }
 
--- 14 "F(start) < start, for the start that rounds use"
+-- refusal 14 (RULES 9.3): F lowers that start
 unfoldable pub isHigh : Terms → ℕ → Bool
 isHigh m given = ltb (timeOf m (startFrom m given)) (startFrom m given)
 

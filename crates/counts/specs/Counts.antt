@@ -13,7 +13,7 @@ sumBelow f (suc n) = sumBelow f n + f n
 unfoldable pub sumFrom : (ℕ → ℕ) → ℕ → ℕ → ℕ
 sumFrom f a e = sumBelow (λ j. f (a + j)) (e - a)
 
--- "(t/T rounded up) times" a cost, or with one job carried in "(t/T rounded up, plus 1) times" it, for the task in place i
+-- a cost for each release of the task in place i (RULES 5.1), and for one job more where one is carried in (RULES 4.5)
 unfoldable pub released : ℕ → ℕ → List ℕ → List ℕ → ℕ → ℕ
 released carried t periods costs i = (t /↑ getD periods i 0 + carried) * getD costs i 0
 

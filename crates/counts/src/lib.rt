@@ -4,7 +4,7 @@ ghost use Prim.Native.Nat.{_^_, _≤_};
 ghost use Rattle.laws.specs.Idioms.{Within};
 ghost use Rattle.counts.specs.Counts.{Summed, Counted, Small, Slots};
 
-// "t/T rounded up"
+// RULES 5.1: how often a task is released in t.
 fn divided(t: u64, period: u64) -> u64
     requires { ⌜ (t ≤ 10 ^ 12) × Within (10 ^ 8) (10 ^ 12) period ⌝ }
     ensures { λ r. ⌜ Counted t period r ⌝ }
@@ -36,7 +36,7 @@ pub fn inverses(n: usize, periods: &[u64; 33]) -> [u64; 33]
     out
 }
 
-// "t/T rounded up": 1 where t is within one period; else guessed by a multiplication and tested; divided where the guess is wrong. A difference that
+// RULES 5.1 again: 1 where t is within one period; else guessed by a multiplication and tested; divided where the guess is wrong. A difference that
 // would be below 0, because t is 0 or the guess is too large, wraps and is no less than any period.
 fn up(t: u64, period: u64, inv: u64) -> u64
     requires { ⌜ (t ≤ 10 ^ 12) × Within (10 ^ 8) (10 ^ 12) period ⌝ }
@@ -55,7 +55,7 @@ fn up(t: u64, period: u64, inv: u64) -> u64
     divided(t, period)
 }
 
-// "A(q, t)": the requests in t of the tasks of a core, those in places a to e, each with the job that it carries in.
+// RULES 4.5: the requests in t of the tasks of a core, those in places a to e, each with the job that it carries in.
 pub fn asked(
     a: usize,
     e: usize,

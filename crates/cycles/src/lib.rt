@@ -1,4 +1,4 @@
-// Document 01's delay figures in cycles, as code.
+// The delay figures (RULES 3) in cycles, as code.
 ghost use mathlib.Core.Path.{_≡_};
 ghost use Prim.Native.Nat.{_+_, _-_, _*_, _/_, _<_, _≤_, min};
 ghost use lib.ListN.{getD};
@@ -89,14 +89,14 @@ pub fn turn(row: [u16; 15]) -> u64
     figure(row, WL) + figure(row, BL) / 2 + figure(row, TWTR)
 }
 
-// "pre = 1."
+// RULES 3.1.
 pub fn pre() -> Cycles
     ensures { λ r. ⌜ r ≡ pre ⌝ }
 {
     Cycles(1)
 }
 
-// "act = max(tRRD, tFAW − 3·tRRD)."
+// RULES 3.2.
 pub fn act(row: [u16; 15]) -> Cycles
     ensures { λ r. ⌜ r ≡ act row ⌝ }
 {
@@ -105,7 +105,7 @@ pub fn act(row: [u16; 15]) -> Cycles
     Cycles(larger(rrd, faw, 3 * rrd))
 }
 
-// "rw = the largest of WL + BL/2 + tWTR; CL + BL/2 + 2 − WL; WL + BL/2 + tRTRS − CL; CL + BL/2 + tRTRS − WL; BL/2 + tRTRS."
+// RULES 3.3: the five, in that order, with the largest so far kept.
 pub fn readwrite(row: [u16; 15]) -> Cycles
     ensures { λ r. ⌜ r ≡ readwrite row ⌝ }
 {
@@ -120,7 +120,7 @@ pub fn readwrite(row: [u16; 15]) -> Cycles
     Cycles(larger(longest, half + rtrs, 0))
 }
 
-// "hit = max(CL + BL/2 + 2, WL + BL/2 + max(tWTR, tWR))."
+// RULES 3.4: as long as a read or a write takes, whichever is longer.
 pub fn hit(row: [u16; 15]) -> Cycles
     ensures { λ r. ⌜ (r ≡ hit row) × (r .0 ≤ 163837) ⌝ }
 {
@@ -130,21 +130,21 @@ pub fn hit(row: [u16; 15]) -> Cycles
     Cycles(most(read, write))
 }
 
-// tRP + tRCD: the two extra commands
+// tRP + tRCD: closing a row and opening another (RULES 4.3).
 pub fn reopen(row: [u16; 15]) -> Cycles
     ensures { λ r. ⌜ r ≡ reopen row ⌝ }
 {
     Cycles(figure(row, TRP) + figure(row, TRCD))
 }
 
-// "conf = tRP + tRCD + hit."
+// RULES 3.4.
 pub fn conf(row: [u16; 15]) -> Cycles
     ensures { λ r. ⌜ r ≡ conf row ⌝ }
 {
     Cycles(figure(row, TRP) + figure(row, TRCD) + hit(row).0)
 }
 
-// "run(m) = m/2 rounded up, times (WL + BL/2 + tWTR), plus m/2 rounded down, times CL, plus (tWR − tWTR)."
+// RULES 3.5: the writes, then the reads, then the rest.
 pub fn run(row: [u16; 15], m: u64) -> Cycles
     requires { ⌜ m ≤ 65535 ⌝ }
     ensures { λ r. ⌜ r ≡ run row m ⌝ }
@@ -154,7 +154,7 @@ pub fn run(row: [u16; 15], m: u64) -> Cycles
     Cycles(writes + reads + less(figure(row, TWR), figure(row, TWTR)))
 }
 
-// "window = min(Ncols/BL, Ncap); Ncols/BL where Ncap is unknown."
+// RULES 3.6: an Ncap of 65535 is unknown (RULES 2.4).
 pub fn window(row: [u16; 15]) -> u64
     ensures { λ r. ⌜ r ≡ window row ⌝ }
 {

@@ -1,3 +1,3 @@
--- What this crate's operations promise, over the rules of document 01.
+-- What this crate's operations promise, over the rules.
 --     Figures     the delay figures as times, together
 pub mod Figures

@@ -1,4 +1,4 @@
-// Document 01's delay figures as times: the cycles times tCK.
+// The delay figures (RULES 3) as times: the cycles times tCK.
 ghost use mathlib.Core.Path.{_≡_};
 ghost use Prim.Native.Nat.{_+_, _*_, _<_, _^_};
 ghost use Rattle.rules.specs.Timing.{tCK};
@@ -34,7 +34,7 @@ fn plus(a: Cycles, b: Cycles) -> Cycles
     Cycles(a.0 + b.0)
 }
 
-// "cycles turn into picoseconds only through the clock time"
+// RULES 2.6: the only way from cycles to a time.
 pub fn in_time(row: [u16; 15], c: Cycles) -> Picos
     requires { ⌜ c .0 * tCK row < 2 ^ 64 ⌝ }
     ensures { λ r. ⌜ r ≡ inTime row c ⌝ }

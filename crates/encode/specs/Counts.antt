@@ -3,6 +3,6 @@ use Prim.Native.Nat.{ℕ}
 use mathlib.Core.List.{List, [], _∷_}
 use Rattle.rules.specs.declared.Table.{Table}
 
--- "4 bytes: cores, partitions, tasks, 0"
+-- the first four bytes of a file: RULES 7.1
 abbrev pub counts : Table → List ℕ
 counts t = t .cores ∷ t .partitions ∷ t .tasks ∷ t .fourth ∷ []

@@ -25,7 +25,7 @@ fn put_figures(out: &mut [u8], at: usize, figures: &[u16], n: usize)
     }
 }
 
-// "core 1, C 8, T 8, D 8, H 4"
+// The record of a task (RULES 7.1).
 fn put_task(out: &mut [u8], at: usize, form: u8, task: Task)
     requires { ⌜ at + 29 ≤ length (now out) ⌝ }
     ensures { λ _. ⌜ now (out .exit) ≡ sets (now (out .entry)) at (recordBytes form task) ⌝ }
@@ -37,7 +37,7 @@ fn put_task(out: &mut [u8], at: usize, form: u8, task: Task)
     bytes::put(out, at + 25, task.requests as u64, 4);
 }
 
-// "Places of a table beyond its counts are ignored by the writer"
+// The records of the tasks, and of no place beyond them (RULES 2.7).
 fn put_tasks(out: &mut [u8], t: Table)
     requires { ⌜ t .tasks ≤ 32 ⌝ }
     requires { ⌜ recordAt (t .fourth) (t .cores) (t .tasks + 1) ≤ length (now out) ⌝ }
@@ -57,7 +57,7 @@ fn put_tasks(out: &mut [u8], t: Table)
     }
 }
 
-// "4 bytes: cores, partitions, tasks, 0"
+// The first four bytes (RULES 7.1).
 fn put_counts(out: &mut [u8], t: Table)
     requires { ⌜ 4 ≤ length (now out) ⌝ }
     ensures { λ _. ⌜ now (out .exit) ≡ sets (now (out .entry)) 0 (counts t) ⌝ }

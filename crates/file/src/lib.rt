@@ -65,7 +65,7 @@ pub fn check(file: &[u8]) -> Refusal
     records_in(file)
 }
 
-// "A refused read gives an all-zero table"
+// What a refused reading gives (RULES 9.2).
 fn read_nothing(refusal: Refusal) -> Read
     ensures { λ r. ⌜ r ≡ readNothing refusal ⌝ }
 {
@@ -120,7 +120,7 @@ pub fn view_refusal(file: &[u8], k: u8) -> Refusal
     rules::refused(0, 0)
 }
 
-// "a refused view an empty part"
+// Viewing (RULES 7.4); what is refused shows no byte (RULES 9.2).
 pub fn view<'a>(file: &'a [u8], k: u8) -> &'a [u8]
     ensures { λ r. ⌜ now r ≡ viewing (now (file .entry)) k ⌝ }
 {

@@ -20,7 +20,7 @@ file-length : (form cores tasks : ℕ) → cores < 256 → tasks < 256 → fileL
 unfolding fileLength recordsAt recordSize setsAt
 file-length form cores tasks c t = omega arith
 
--- "the length isn't 46 + 2·cores + 29·tasks by the header's counts"
+-- more bytes than that are refused by 2 (RULES 7.5)
 module _ (s : List ℕ) (cores : coresIn s < 256) (tasks : tasksIn s < 256) (long : 7952 ≤ length s) where
   wrong-length : checkWhole s ≡ refused 2 0
   unfolding checkWhole

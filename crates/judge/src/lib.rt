@@ -48,7 +48,7 @@ fn check_start(table: Table, k: u8, start: u64) -> Refusal
     refused(0, 0)
 }
 
-// "A judgement is of one task with one start": refusals 5 to 14, or the answer.
+// RULES 6.3, of one task: refusals 5 to 14, or the answer.
 pub fn judge_one(table: Table, k: u8, start: Picos) -> Judged
     ensures { λ r. ⌜ r ≡ judgeOne table k (start .0) ⌝ }
 {
@@ -80,7 +80,7 @@ fn numbers(starts: [Picos; 32]) -> [u64; 32]
     column
 }
 
-// "or of all with 32 starts": refusals 5 to 11, 13 and 14, or the answers.
+// RULES 6.3, of all tasks: refusals 5 to 11, 13 and 14, or the answers.
 pub fn judge_all(table: Table, starts: [Picos; 32]) -> AllJudged
     ensures { λ r. ⌜ r ≡ judgeAll table (inPicos starts) ⌝ }
 {

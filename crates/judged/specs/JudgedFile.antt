@@ -11,7 +11,7 @@ use Rattle.rules.specs.File.{tasksIn, decode}
 use Rattle.rules.specs.Operations.{checkFile}
 use Rattle.plain.specs.Stored.{checkOutputs, Stored}
 
--- "Tasks beyond starts_n begin at 0; starts beyond the tasks are ignored": the entry beyond the list's end is 0
+-- a task that is given no start starts at 0, which is the entry beyond the list's end; starts beyond the tasks mean nothing (RULES 6.3)
 unfoldable pub checkJudging : List ℕ → List ℕ → Refusal
 checkJudging s starts = checkFile s orElse checkAll (decode s) (entry 0 starts)
 

@@ -1,4 +1,4 @@
-// The listing of document 01: its bytes for a table with its answers, and for a table file, into a lent buffer.
+// The listing (RULES 8): its bytes for a table with its answers, and for a table file, into a lent buffer.
 use rows::first_miss;
 use rows::put_last;
 use rows::put_rows;
@@ -54,7 +54,7 @@ pub fn lines(t: Table, answers: [Answer; 32], out: &mut [u8]) -> usize
     accepted_lines(t, answers, out)
 }
 
-// "A refusal is the only line": likewise.
+// The line of a refusal (RULES 8.2), likewise.
 pub fn refused(number: u8, out: &mut [u8]) -> usize
     ensures { λ r. ⌜ Given (refusedLine number) (now (out .entry)) r (now (out .exit)) ⌝ }
     ensures { λ _. ⌜ length (refusedLine number) ≤ 29 ⌝ }

@@ -12,7 +12,7 @@ pub fn size(x: u8) -> usize
     x as usize
 }
 
-// "4 bytes .. Then 15 timing figures of 2 bytes"
+// RULES 7.1: the bytes before the sets.
 pub fn sets_at(form: u8) -> usize
     ensures { λ r. ⌜ r ≡ setsAt form ⌝ }
     ensures { λ r. ⌜ r ≤ 64 ⌝ }
@@ -20,7 +20,7 @@ pub fn sets_at(form: u8) -> usize
     34
 }
 
-// "29 bytes a task"
+// RULES 7.1: the bytes of a task's record.
 pub fn record_size(form: u8) -> usize
     ensures { λ r. ⌜ r ≡ recordSize form ⌝ }
     ensures { λ r. ⌜ r ≤ 64 ⌝ }
@@ -28,7 +28,7 @@ pub fn record_size(form: u8) -> usize
     29
 }
 
-// Where the record in place i starts, which is that of task number i + 1: "34 + 2 times cores + 29 times (k − 1)".
+// Where the record in place i starts, which is that of task number i + 1 (RULES 7.2).
 pub fn record_at(form: u8, cores: u8, i: usize) -> usize
     requires { ⌜ i ≤ 255 ⌝ }
     ensures { λ r. ⌜ r ≡ recordAt form cores (i + 1) ⌝ }
@@ -37,7 +37,7 @@ pub fn record_at(form: u8, cores: u8, i: usize) -> usize
     sets_at(form) + 2 * size(cores) + record_size(form) * i
 }
 
-// "46 + 2·cores + 29·tasks": the trailer's 12 bytes stand where one record more would start.
+// RULES 7.2: the trailer's 12 bytes stand where one record more would start.
 pub fn file_length(form: u8, cores: u8, tasks: u8) -> usize
     ensures { λ r. ⌜ r ≡ fileLength form cores tasks ⌝ }
     ensures { λ r. ⌜ r ≤ 16906 ⌝ }

@@ -8,11 +8,11 @@ use Rattle.rules.specs.declared.Verdict.{Verdict}
 use Rattle.rules.specs.declared.Verdict.the-variants.{Holds, Misses}
 use Rattle.rules.specs.Chain.{isAccepted}
 
--- RYB_SHORT_OUTPUT: "an output has fewer places than the file has tasks"
+-- RYB_SHORT_OUTPUT (RULES 9.3)
 abbrev pub tooShort : ℕ
 tooShort = 255
 
--- "its number plus 256 times its place, and 0 where nothing is refused"
+-- number and place in one, from which RYB_NUMBER and RYB_PLACE take them; 0 where nothing is refused
 abbrev pub codeOf : Refusal → ℕ
 codeOf r = cond (isAccepted r) 0 (r .number + 256 * r .place)
 

@@ -11,18 +11,18 @@ use Rattle.rules.specs.Chain.{isAccepted, given}
 use Rattle.rules.specs.Judgement.{boundOf}
 use Rattle.plain.specs.Codes.{byNumber, tooShort}
 
--- "an output has fewer places than the file has tasks", of which there are n
+-- an output is too short for n answers: refusal 255 (RULES 9.3)
 abbrev pub short : ℕ → List ℕ → Bool
 short n out = ltb (length out) n
 
 unfoldable pub checkOutputs : ℕ → List ℕ → List ℕ → List ℕ → Refusal
 checkOutputs n bounds rounds by = given tooShort 0 (short n bounds || short n rounds || short n by)
 
--- "Places beyond the tasks keep what they held."
+-- values in the first places; those behind them keep what they held
 abbrev pub laidOver : List ℕ → List ℕ → List ℕ
 laidOver new out = new ++ drop (length new) out
 
--- an output afterwards: where something is refused "no output is changed"
+-- an output afterwards: as it was, where something is refused (RULES 9.2)
 abbrev pub laidUnless : Refusal → List ℕ → List ℕ → List ℕ
 laidUnless refusal new out = cond (isAccepted refusal) (laidOver new out) out
 

@@ -13,7 +13,7 @@ ghost use Rattle.rules.specs.Judgement.{boundOf};
 ghost use Rattle.plain.specs.Codes.{codeOf, byNumber};
 ghost use Rattle.plain.specs.Stored.{checkOutputs, Stored};
 
-// The refusal of an output that is too short for the answers. Document 01 has no number for it: its own end at 15.
+// The refusal of an output that is too short for the answers, which only C has (RULES 9.3).
 const TOO_SHORT: u8 = 255;
 
 // Number and place in one; 0 where nothing is refused.

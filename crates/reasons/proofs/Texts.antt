@@ -10,7 +10,7 @@ use borrow.Author.Tests.{ne-eqb}
 use Rattle.laws.specs.Idioms.{text, every, within, Within}
 use Rattle.laws.proofs.Tests.{and-both, inside}
 use Rattle.text.specs.Put.{Given}
-use Rattle.reasons.specs.Reasons.{documentTexts, reasonText, longestReason}
+use Rattle.reasons.specs.Reasons.{numberedTexts, reasonText, longestReason}
 
 -- the text of a number that is known, and of one that no refusal has
 module _ (number : ℕ) {made : ℕ} {out after : List ℕ} where
@@ -18,8 +18,8 @@ module _ (number : ℕ) {made : ℕ} {out after : List ℕ} where
   given-at k e given = rw e given
 
   pub given-other : 15 < number → (number ≡ 255 → ⊥) → Given (text "no refusal has this number") out made after → Given (reasonText number) out made after
-  unfolding reasonText documentTexts
-  given-other high other given = rw (ne-eqb number 255 other, List·getD-eq-default documentTexts _ {n = number} (omega arith)) given
+  unfolding reasonText numberedTexts
+  given-other high other given = rw (ne-eqb number 255 other, List·getD-eq-default numberedTexts _ {n = number} (omega arith)) given
 
 -- every text of a list, and the one for a place beyond it
 every-entry : {A : Type 0} (p : A → Bool) (l : List A) (i : ℕ) (d : A) → every p l ≡ true → p d ≡ true → p (getD l i d) ≡ true
@@ -31,10 +31,10 @@ fits : List ℕ → Bool
 fits words = within 1 longestReason (length words)
 
 all-fit : (number : ℕ) (b : Bool)
-    → fits (cond b (text "an output is shorter than the tasks") (getD documentTexts number (text "no refusal has this number"))) ≡ true
-unfolding fits documentTexts
+    → fits (cond b (text "an output is shorter than the tasks") (getD numberedTexts number (text "no refusal has this number"))) ≡ true
+unfolding fits numberedTexts
 all-fit number true = refl
-all-fit number false = every-entry fits documentTexts number _ refl refl
+all-fit number false = every-entry fits numberedTexts number _ refl refl
 
 pub reason-length : (number : ℕ) → Within 1 longestReason (length (reasonText number))
 unfolding fits reasonText

@@ -6,9 +6,9 @@ use lib.Dec.{eqb}
 use lib.ListN.{getD}
 use Rattle.laws.specs.Idioms.{text}
 
--- the numbers of document 01 from 0, which refuses nothing, to 15
-unfoldable pub documentTexts : List (List ℕ)
-documentTexts =
+-- the numbers of RULES 9.3 from 0, which refuses nothing, to 15
+unfoldable pub numberedTexts : List (List ℕ)
+numberedTexts =
     text "nothing is refused"
     ∷ text "the file has under 46 bytes"
     ∷ text "the file's length is not what its counts say"
@@ -30,7 +30,7 @@ documentTexts =
 -- 255 is the C interface's own; no other number refuses
 unfoldable pub reasonText : ℕ → List ℕ
 reasonText number =
-    cond (eqb number 255) (text "an output is shorter than the tasks") (getD documentTexts number (text "no refusal has this number"))
+    cond (eqb number 255) (text "an output is shorter than the tasks") (getD numberedTexts number (text "no refusal has this number"))
 
 -- the length of the longest
 abbrev pub longestReason : ℕ

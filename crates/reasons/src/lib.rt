@@ -70,7 +70,7 @@ fn asked_reason(number: u8, out: &mut [u8]) -> usize
     }
 }
 
-// Above the document's numbers.
+// Above 15: 255, which only C has, and numbers that no refusal has.
 fn other_reason(number: u8, out: &mut [u8]) -> usize
     requires { ⌜ 15 < number ⌝ }
     ensures { λ r. ⌜ Given (reasonText number) (now (out .entry)) r (now (out .exit)) ⌝ }

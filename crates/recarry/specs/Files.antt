@@ -31,7 +31,7 @@ checkCarry older newer bounds rounds by = checkFiles older newer orElse checkOut
 unfoldable pub carryRefusal : List ℕ → List ℕ → List ℕ → List ℕ → List ℕ → CarryRefusal
 carryRefusal older newer bounds rounds by = record { refusal = checkCarry older newer bounds rounds by; faulty = faultyFile older newer }
 
--- RYB_OLDER, RYB_NEWER, or neither; "the refusal plus 65536 times the file that it is about"
+-- RYB_OLDER, RYB_NEWER, or neither; and the refusal with it in one, from which RYB_TABLE takes it
 abbrev pub tableNumber : Faulty → ℕ
 tableNumber Neither = 0
 tableNumber Older = 1
@@ -50,6 +50,6 @@ pub record CarriedFiles (older newer bounds rounds by bounds′ rounds′ by′ 
   pub bounds-fresh : bounds′ ≡ laidUnless (checkCarry older newer bounds rounds by) (map boundIn (answersOf newer [])) bounds
   pub by-fresh : by′ ≡ laidUnless (checkCarry older newer bounds rounds by) (map byIn (answersOf newer [])) by
 
--- "Returns 1 where ryb_read accepts both files and that is so": what `isCarried` says of two tables
+-- both files are accepted and the newer is the older one worsened (RULES 6.4): what `isCarried` says of two tables
 unfoldable pub filesWorsen : List ℕ → List ℕ → Bool
 filesWorsen older newer = isAccepted (checkFiles older newer) && worsens (decode older) (decode newer)

@@ -5,7 +5,7 @@ ghost use lib.ListN.{length};
 ghost use Rattle.sums.specs.Sums.{sumsOf, joinedSums};
 ghost use Rattle.sums.specs.Lanes.{evensOf, addedOf, weighedOf, early, sumsIn};
 
-// "the sum of those bytes, and the sum of the running sums after each of them"
+// RULES 7.3: of some bytes the sum, and the sum of the running sums.
 pub struct Totals {
     pub sum: u64,
     pub running: u64,
@@ -115,7 +115,7 @@ fn joined(a: Totals, b: Totals, n: usize) -> Totals
     }
 }
 
-// "These sums are whole numbers": 64 bits hold those of far more bytes than a file can have.
+// RULES 7.3: both as whole numbers. 64 bits hold those of far more bytes than a file can have.
 pub fn sums(s: &[u8]) -> Totals
     requires { ⌜ length (now s) ≤ 65536 ⌝ }
     ensures { λ r. ⌜ r ≡ sumsOf (now (s .entry)) ⌝ }

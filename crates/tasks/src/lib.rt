@@ -24,7 +24,7 @@ pub fn outside(lowest: u64, highest: u64, x: u64) -> bool
     false
 }
 
-// "10^8 ≤ T ≤ 10^12; 1 ≤ D ≤ T; 1 ≤ C ≤ D"
+// Is T, D or C outside its limits (RULES 2.2)?
 fn time_fault(x: Task) -> bool
     ensures { λ r. ⌜ r ≡ timeFault x ⌝ }
 {
@@ -74,7 +74,7 @@ pub fn noted(seen: Faults, k: u8, cores: u8, x: Task) -> Faults
     }
 }
 
-// "The lowest number that applies is given": 9, then 10, then 11.
+// RULES 9.1: 9, then 10, then 11.
 pub fn told(seen: Faults) -> Refusal
     ensures { λ r. ⌜ r ≡ toldBy seen ⌝ }
 {

@@ -12,7 +12,7 @@ use Rattle.counts.specs.Counts.{sumBelow, askedBy, Slots}
 use Rattle.terms.specs.declared.Own.{Own}
 use Rattle.terms.specs.declared.Applied.{Applied}
 
--- "A(q, t)" at so much a request
+-- RULES 4.5 at so much a request
 pub record Charged (a e : ℕ) (periods asks : List ℕ) (weight t r : ℕ) : Type 0 where
   pub is : r ≡ askedBy 1 t a e periods asks * weight
   pub high : r ≤ (e - a) * (10001 * (2 * 10 ^ 13))
@@ -53,18 +53,18 @@ termsOf own begins periods execs asks = record { own = own; begins = begins; per
 abbrev pub aboveOf : Terms → List ℕ → ℕ → ℕ
 aboveOf m costs t = askedBy 0 t (m .own .first) (m .own .place) (m .periods) costs
 
--- "Request is RD(p) times (H + sum over the same j of (t/Tj rounded up) times Hj). Job is JD(p, t)."
+-- the two delays: RULES 5.2, RULES 5.3
 unfoldable pub requestOf : Terms → ℕ → ℕ
 requestOf m t = m .own .delay .0 * (m .own .requests + aboveOf m (m .asks) t)
 
 unfoldable pub jobOf : Terms → ℕ → ℕ
 jobOf m t = sumBelow (chargeOf (m .own) (m .begins) (m .periods) (m .asks) t) (m .own .cores)
 
--- "F(t) = C + sum over higher tasks j of core p of (t/Tj rounded up) times Cj + the smaller of request and job."
+-- F: RULES 5.4
 unfoldable pub timeOf : Terms → ℕ → ℕ
 timeOf m t = m .own .exec + aboveOf m (m .execs) t + min (requestOf m t) (jobOf m t)
 
--- "Equal delays count as request."
+-- which delay decided: RULES 5.5
 unfoldable pub byOf : Terms → ℕ → Delay
 byOf m t = cond (leb (requestOf m t) (jobOf m t)) Request Job
 

@@ -18,7 +18,7 @@ pub record Spelled (n first : ℕ) (after : List ℕ) : Type 0 where
   pub inside : first ≤ 20
   pub digits : drop first after ≡ decimal n
 
--- a text in a lent buffer: its length, and "bytes after it stay". Where the buffer is too short the length is 0, and "No lent byte changes"
+-- a text in a lent buffer: its length, and the bytes behind it are left. Where the buffer is too short the length is 0, and no byte changes
 abbrev pub givenLength : List ℕ → List ℕ → ℕ
 givenLength text out = cond (leb (length text) (length out)) (length text) 0
 

@@ -9,7 +9,7 @@ use cycles::figure;
 use rules::Refusal;
 use rules::refused;
 
-// "The DDR3-1333 row is supplied."
+// The DDR3-1333 row (RULES 2.4).
 pub const DDR3_1333: [u16; 15] = [1500, 9, 9, 9, 7, 8, 5, 10, 4, 20, 24, 5, 2, 1024, 65535];
 
 pub fn ddr3_1333() -> [u16; 15]
@@ -21,7 +21,7 @@ pub fn ddr3_1333() -> [u16; 15]
 // The lowest and highest of a figure.
 pub struct Limits(pub u16, pub u16);
 
-// "The ranges stand as one table of lowest and highest; BL has 4 and 16 there"
+// The ranges of RULES 2.4, in that order. BL has its lowest and highest here; not all between them pass.
 const LIMITS: [Limits; 15] = [
     Limits(1, 5000),
     Limits(1, 127),
@@ -40,7 +40,7 @@ const LIMITS: [Limits; 15] = [
     Limits(0, 65535),
 ];
 
-// "of the values between only 8 passes"
+// RULES 2.4: x is no burst length.
 fn not_burst(x: u16) -> bool
     ensures { λ r. ⌜ r ≡ notBurst x ⌝ }
 {
@@ -73,7 +73,7 @@ fn remainder(a: u64, b: u64) -> u64
     if b == 0 { a } else { a % b }
 }
 
-// Is relation k, as listed, broken?
+// Is relation k of RULES 2.5 broken?
 fn relation_fault(row: [u16; 15], k: u8) -> bool
     requires { ⌜ (1 ≤ k) × (k ≤ 5) ⌝ }
     ensures { λ r. ⌜ r ≡ relationFault row k ⌝ }
@@ -101,7 +101,7 @@ fn all_limits() -> [Limits; 15]
     LIMITS
 }
 
-// 6 "a timing figure is outside its range"
+// Refusal 6 (RULES 9.3), with the first figure at fault.
 fn check_ranges(row: [u16; 15]) -> Refusal
     ensures { λ r. ⌜ r ≡ first 6 (figureFault row) 15 ⌝ }
 {
@@ -116,7 +116,7 @@ fn check_ranges(row: [u16; 15]) -> Refusal
     refused(0, 0)
 }
 
-// 7 "a relation is broken (place: 1 to 5 as listed)"
+// Refusal 7 (RULES 9.3), with the first relation at fault.
 fn check_relations(row: [u16; 15]) -> Refusal
     ensures { λ r. ⌜ r ≡ first 7 (relationFault row) 5 ⌝ }
 {

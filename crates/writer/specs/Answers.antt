@@ -7,7 +7,7 @@ use Rattle.rules.specs.declared.Refusal.{Refusal}
 use Rattle.rules.specs.declared.Written.{Written}
 use Rattle.rules.specs.Operations.{writing, outAfter}
 
--- "a refused writing the length 0"
+-- RULES 9.2
 abbrev pub wroteNothing : Refusal → Written
 wroteNothing refusal = record { refusal = refusal; length = 0 }
 

@@ -7,7 +7,7 @@ use rules::Refusal;
 use rules::Table;
 use rules::Written;
 
-// "a refused writing the length 0"
+// What a refused writing answers (RULES 9.2).
 fn wrote_nothing(refusal: Refusal) -> Written
     ensures { λ r. ⌜ r ≡ wroteNothing refusal ⌝ }
 {

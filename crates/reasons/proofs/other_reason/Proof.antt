@@ -1,13 +1,13 @@
 -- `other_reason` meets its contract: the one number that is known, and the others. Assumes nothing.
 use native.Mathlib.Omega.{arith}
 use borrow.Author.Needs.{needs}
-use Rattle.reasons.specs.Reasons.{documentTexts, reasonText}
+use Rattle.reasons.specs.Reasons.{numberedTexts, reasonText}
 use Rattle.reasons.proofs.Texts.{given-at, given-other}
 use Rattle.reasons.proofs.other_reason.Statement.{statement}
 use Rattle.reasons.proofs.other_reason.Tie as tie
 
 pub other-reason-spec : {M : Type 1} → statement M
-unfolding reasonText documentTexts
+unfolding reasonText numberedTexts
 other-reason-spec =
     tie.close
     (tie.spec (λ c. search needs) (λ c κs. search needs) (λ c. search needs) (λ c κs. search needs)

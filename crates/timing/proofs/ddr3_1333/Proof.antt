@@ -1,4 +1,4 @@
--- The supplied row is the document's. Assumes nothing.
+-- The supplied row is the rules'. Assumes nothing.
 use mathlib.Core.Path.{refl}
 use Rattle.rules.specs.Timing.{ddr3-1333}
 use Rattle.timing.proofs.ddr3_1333.Statement.{statement}
