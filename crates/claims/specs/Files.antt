@@ -1,5 +1,5 @@
--- What the mission demands of table files, said of the rules' own definitions: a record is a demand and its fields are the clauses,
--- with the document's words above them. Assumes nothing.
+-- What points 1 and 2 of docs/CLAIMS.md demand of table files, said of the rules' own definitions: a record is a demand and its fields are
+-- the clauses. Assumes nothing.
 use Prim.Native.Nat.{ℕ, _≤_, _<_}
 use mathlib.Core.Path.{_≡_}
 use mathlib.Core.Logic.{_≢_}
@@ -26,12 +26,12 @@ RefusedFile s = isAccepted (reading s .refusal) ≡ false
 abbrev pub AcceptedTable : Table → Type 0
 AcceptedTable t = isAccepted (checkTable t) ≡ true
 
--- "No accepted table file is accepted when cut short, nor with any one byte altered."
+-- point 1: an accepted file that is cut short, or has one byte altered, is refused
 pub record Damage : Type 0 where
   pub cut-short : (s : List ℕ) → AcceptedFile s → (n : ℕ) → n < length s → RefusedFile (take n s)
   pub one-byte : (s : List ℕ) → Bytes s → AcceptedFile s → (i b : ℕ) → i < length s → b < 256 → b ≢ getD s i 0 → RefusedFile (set s i b)
 
--- the shape in which code holds every table
+-- the shape in which code holds every table: RULES 2.7
 pub record Shape (t : Table) : Type 0 where
   pub figures : length (t .timing) ≡ 15
   pub sets : length (t .sets) ≡ 8
@@ -49,17 +49,16 @@ cleared t = record {
   task = filled 32 noTask (tasksOf t);
 }
 
--- "Reading a written table returns it, unused places zero; writing a read one returns the file."
+-- point 2: a table comes back from its file, and a file from its table
 pub record Return : Type 0 where
   pub read-written : (t : Table) → Shape t → AcceptedTable t → reading (encode t) ≡ record { refusal = accepted; table = cleared t }
   pub written-read : (s : List ℕ) → Bytes s → AcceptedFile s → encode (reading s .table) ≡ s
-  -- "Places of a table beyond its counts are .. zero after reading"
+  -- RULES 2.7: what reading leaves in unused places
   pub unused-zero : (s : List ℕ) → cleared (reading s .table) ≡ reading s .table
   -- so a read table can be written
   pub shape-read : (s : List ℕ) → Shape (reading s .table)
 
--- The same, by way of a lent buffer that is long enough. "Writing needs room for the whole file and answers its length; bytes after
--- it stay."
+-- The same, by way of a lent buffer that is long enough, as RULES 7.4 writes into it.
 pub record ReturnInPlace : Type 0 where
   pub read-written : (t : Table) (out : List ℕ) → Shape t → AcceptedTable t → length (encode t) ≤ length out
       → reading (take (writing t out .length) (outAfter t out)) ≡ record { refusal = accepted; table = cleared t }

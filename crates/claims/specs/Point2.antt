@@ -1,4 +1,4 @@
--- Point 2 of the mission, of the operations that judge one task and all: what a verdict says, fresh and from a given start. (What point 2 says
+-- Point 2 of docs/CLAIMS.md, of the operations that judge one task and all: what a verdict says, fresh and from a given start. (What point 2 says
 -- of delay figures is the figures' list of the crate `rules`; what it says of files is in `Files`.) Assumes nothing.
 use Prim.Native.Nat.{ℕ, _≤_}
 use mathlib.Core.Path.{_≡_}
@@ -32,7 +32,7 @@ pub record AcceptedTask (t : Table) (k : ℕ) : Type 0 where
 abbrev pub taskAnswer : ℕ → List Answer → Answer
 taskAnswer k answers = entry (misses 0) answers k
 
--- which delay decided at R: "Equal delays count as request."
+-- which delay decided at R: RULES 5.5, with its tie
 pub record Decided (t : Table) (k R : ℕ) (by : Delay) : Type 0 where
   pub is-request : (by ≡ Request)
       ↔ (request (memoryOf t (coreOf t k)) (taskOf t k) (higher t k) R ≤ job (memoryOf t (coreOf t k)) R)
@@ -42,12 +42,11 @@ pub record Decided (t : Table) (k R : ℕ) (by : Delay) : Type 0 where
 pub record Right (t : Table) (k from : ℕ) (v : Verdict) : Type 0 where
   -- it holds with the bound R exactly if R is the smallest solution
   pub holds : (R : ℕ) → ((by : Delay) × (v ≡ Holds (ps R) by)) ↔ Smallest (F t k) from (latest (taskOf t k)) R
-  -- "it misses exactly if there is none"
+  -- and misses exactly if there is no solution
   pub misses : (v ≡ Misses) ↔ ((R : ℕ) → ¬ Solution (F t k) from (latest (taskOf t k)) R)
   pub decided : (R : ℕ) (by : Delay) → v ≡ Holds (ps R) by → Decided t k R by
 
--- "A task's bound is the smallest whole time from 1 to its deadline that satisfies the response equation; it misses exactly if there
--- is none."
+-- point 2: RULES 5.5 of every task of an accepted table, judged fresh
 pub record PointTwo : Type 0 where
   -- a fresh start is never refused
   pub one-fresh : (t : Table) (k : ℕ) → AcceptedTask t k → judgeOne t k 0 .refusal ≡ accepted
@@ -57,7 +56,7 @@ pub record PointTwo : Type 0 where
       → ((by : Delay) × (judgeOne t k 0 .answer .verdict ≡ Holds (ps R) by)) ↔ IsBound t k R
   pub one : (t : Table) (k : ℕ) → AcceptedTask t k → Right t k 1 (judgeOne t k 0 .answer .verdict)
   pub all : (t : Table) (k : ℕ) → AcceptedTask t k → Right t k 1 (taskAnswer k (judgeAll t freshStarts .answers) .verdict)
-  -- "With a given start the answer is the least R at or above the start, up to D, with R = F(R)."
+  -- RULES 6.2: from a given start
   pub one-from : (t : Table) (k start : ℕ) → isAccepted (judgeOne t k start .refusal) ≡ true
       → Right t k (startOf t k start) (judgeOne t k start .answer .verdict)
   pub all-from : (t : Table) (starts : List ℕ) → isAccepted (judgeAll t starts .refusal) ≡ true → (k : ℕ) → 1 ≤ k → k ≤ t .tasks

@@ -1,4 +1,4 @@
--- Point 3 of the mission, of the operations: a newer table judged from the older one's bounds. Assumes nothing.
+-- Point 3 of docs/CLAIMS.md, of the operations: a newer table judged from the older one's bounds. Assumes nothing.
 use Prim.Native.Nat.{ℕ, _≤_, _<_}
 use mathlib.Core.Path.{_≡_}
 use mathlib.Core.Bool.{true}
@@ -20,7 +20,7 @@ use Rattle.rules.specs.Operations.{judgeOne, judgeAll, freshStarts, olderBound,
 use Rattle.claims.specs.Files.{AcceptedTable}
 use Rattle.claims.specs.Point2.{Right, taskAnswer}
 
--- "Two accepted tables alike but that the newer may raise execution times and request counts and shorten periods"
+-- the premise: both tables are accepted, and the newer is the older one worsened (RULES 6.4)
 pub record NewerWorse (older newer : Table) : Type 0 where
   pub older-accepted : AcceptedTable older
   pub newer-accepted : AcceptedTable newer
@@ -31,23 +31,23 @@ abbrev pub outcomeOf : Verdict → Outcome
 outcomeOf (Holds bound by) = found (bound .0)
 outcomeOf Misses = nothing
 
--- "the rounds are the equation's from that start": each round's t is F of the last, every round before the last raises it and not past the
+-- the rounds are those of RULES 6.1 from that start: each round's t is F of the last, every round before the last raises it and not past the
 -- deadline, and the last ends as the verdict says. No other number has that course.
 pub record Counted (t : Table) (k start : ℕ) (a : Answer) : Type 0 where
   pub course : Course (F t k) (latest (taskOf t k)) (startOf t k start) (outcomeOf (a .verdict)) (a .rounds)
   pub only : (v : Outcome) (n : ℕ) → Course (F t k) (latest (taskOf t k)) (startOf t k start) v n → n ≡ a .rounds
-  -- "at most 2 plus, for each higher task on its core and each task elsewhere, that other task's periods begun within the deadline, less one each"
+  -- RULES 6.7
   pub limit : a .rounds ≤ roundLimit t k
 
 -- an answer to task k of the newer table, from its older bound
 pub record AnsweredFromOlder (older newer : Table) (k : ℕ) (a : Answer) : Type 0 where
-  -- "verdict and bound are point 2's for the newer table"
+  -- right as point 2 has it of the newer table: solutions are looked for from 1, wherever the rounds start
   pub right : Right newer k 1 (a .verdict)
   pub counted : Counted newer k (olderBound older k) a
-  -- "never more than fresh"
+  -- RULES 6.6
   pub no-more : a .rounds ≤ taskAnswer k (judgeAll newer freshStarts .answers) .rounds
 
--- "each task started from its older bound, or 0 where it missed": `olderBounds`
+-- from the starts of RULES 6.5, `olderBounds`
 pub record FromOlder (older newer : Table) : Type 0 where
   -- all older bounds together are accepted starts of the newer table
   pub not-refused : judgeAll newer (olderBounds older) .refusal ≡ accepted
@@ -70,7 +70,7 @@ pub record PointThree : Type 0 where
   pub whatever-older : (older newer : Table) → isAccepted (rejudging older newer .refusal) ≡ true
       → verdicts (rejudging older newer .answers) ≡ verdicts (judgeAll newer freshStarts .answers)
 
--- "So point 3's premise on starts is needed": a start that is not refused and is above the bound can give another bound.
+-- Not every start will do: one that is not refused and is above the bound can give another bound (RULES 11.7).
 pub record StartsMatter : Type 0 where
   pub table : Table
   pub task : ℕ

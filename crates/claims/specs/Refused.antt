@@ -1,4 +1,4 @@
--- What a refused operation gives, said of the rules' own definitions. Assumes nothing.
+-- Point 1: what a refused operation gives, said of the rules' own definitions. Assumes nothing.
 use Prim.Native.Nat.{ℕ}
 use mathlib.Core.Path.{_≡_}
 use mathlib.Core.Bool.{Bool, true, false}
@@ -17,8 +17,7 @@ isNeither Neither = true
 isNeither Older = false
 isNeither Newer = false
 
--- "A refused read gives an all-zero table, a refused view an empty part, a refused judgement answers that are all misses in
--- 0 rounds, a refused writing the length 0. No lent byte changes."
+-- RULES 9.2, operation by operation. The last field is point 1's: the lent buffer is as it was
 pub record Refused : Type 0 where
   pub read : (s : List ℕ) → isAccepted (reading s .refusal) ≡ false → reading s .table ≡ emptyTable
   pub view : (s : List ℕ) (k : ℕ) → isAccepted (checkView s k) ≡ false → viewing s k ≡ []

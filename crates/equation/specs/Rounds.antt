@@ -1,4 +1,4 @@
--- The rounds from a time: as the document counts them (`Rounds`), run (`solve`), and by their times (`Course`). Assumes nothing.
+-- The rounds from a time: as RULES 6.1 counts them (`Rounds`), run (`solve`), and by their times (`Course`). Assumes nothing.
 use mathlib.Core.Path.{_≡_}
 use mathlib.Core.Logic.{_≢_}
 use mathlib.Core.Bool.{true, false}

@@ -1,4 +1,4 @@
--- "Show that any two results allowed by it coincide": a row for each public operation, with what its contract allows. Assumes nothing.
+-- Any two results that a contract allows are the same: a row for each public operation, with what its contract allows. Assumes nothing.
 use Prim.Native.Nat.{ℕ}
 use mathlib.Core.Path.{_≡_}
 use mathlib.Core.Bool.{Bool, cond}

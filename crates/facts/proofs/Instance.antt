@@ -57,7 +57,7 @@ module _ (t : Table) (accepted : isAccepted (checkTable t) ≡ true) (k : ℕ) (
   unfolding lowest latest
   lowest-fits = own-sound .C-in .high
 
--- the limit on the rounds, in the document's words
+-- the limit on the rounds, as RULES 6.7 has it
 renewals-of : (d : ℕ) (js : List Task) → renewals d (map releases js) ≡ sumOver js (λ j. releases j d - 1)
 unfolding renewals
 renewals-of d [] = refl

@@ -1,4 +1,4 @@
--- What follows from the rules, in the words in which contracts of inner functions and proofs use it. Nothing here is a rule of the document,
+-- What follows from the rules, in the words in which contracts of inner functions and proofs use it. Nothing here is one of the rules,
 -- and none of it has to be believed: each is shown of the rules in proofs/.
 --     Sound     the bounds of an accepted table
 --     Prices    what a board's cores cost each other, as prices

@@ -1,4 +1,4 @@
--- Laws of the forms. They know nothing of the document.
+-- Laws of the forms. They know nothing of the rules.
 --     Sums       one member more; sums that do not fall
 --     Linear     a sum of sums, of multiples, of a test
 --     Members    what is known of a member

@@ -1,1 +1,1 @@
-// Theorems alone: lists, places, sums and numbers. No word of the document.
+// Theorems alone: lists, places, sums and numbers. No word of the rules.

@@ -1,4 +1,4 @@
--- What the mission says of the answers to all tasks: fresh, and of a newer table from the older one's bounds. Assumes nothing.
+-- What points 2 and 3 say of the answers to all tasks: fresh, and of a newer table from the older one's bounds. Assumes nothing.
 use Prim.Native.Nat.{ℕ, _≤_}
 use mathlib.Core.Path.{_≡_}
 use mathlib.Core.Bool.{true}

@@ -1,4 +1,4 @@
--- What is written into a buffer, and "writing a read one returns the file". Assumes nothing.
+-- Point 2: what is written into a buffer, and a read file that is written back. Assumes nothing.
 use Prim.Native.Nat.{ℕ, _≤_}
 use mathlib.Core.Path.{_≡_}
 use mathlib.Core.List.{List, _++_}

@@ -1,4 +1,4 @@
-// The mission's sentences on the operations themselves: each function makes the calls that a sentence speaks of, and its contract says
+// The sentences of docs/CLAIMS.md on the operations themselves: each function makes the calls that a sentence speaks of, and its contract says
 // what it gives and then the sentence. Nobody has to call these; they are here to be proved.
 ghost use mathlib.Core.Path.{_≡_};
 ghost use mathlib.Core.Logic.{_≢_};
@@ -18,7 +18,7 @@ use rules::Refusal;
 use rules::Rejudged;
 use rules::Table;
 
-// "No accepted table file is accepted when cut short": the first n bytes of a file.
+// Point 1, a file that is cut short: its first n bytes.
 pub fn cut_short(file: &[u8], n: usize) -> Refusal
     ensures { λ r. ⌜ r ≡ checkFile (take n (now (file .entry))) ⌝ }
     ensures { λ r. ⌜ (AcceptedFile (now (file .entry)) → n < length (now (file .entry)) → isAccepted r ≡ false) ⌝ }
@@ -29,7 +29,7 @@ pub fn cut_short(file: &[u8], n: usize) -> Refusal
     file::check(file)
 }
 
-// "nor with any one byte altered": byte i of a file becomes b.
+// Point 1, a file with one byte altered: byte i becomes b.
 pub fn altered(file: &mut [u8], i: usize, b: u8) -> Refusal
     ensures { λ r. ⌜ (now (file .exit) ≡ set (now (file .entry)) i b) × (r ≡ checkFile (now (file .exit))) ⌝ }
     ensures { λ r. ⌜ (AcceptedFile (now (file .entry)) → i < length (now (file .entry)) → b ≢ getD (now (file .entry)) i 0 → isAccepted r ≡ false) ⌝ }
@@ -41,7 +41,7 @@ pub fn altered(file: &mut [u8], i: usize, b: u8) -> Refusal
     file::check(file)
 }
 
-// "Reading a written table returns it, unused places zero". No accepted table takes more than 990 bytes.
+// Point 2, a table that is written and read. No accepted table takes more than 990 bytes.
 pub fn written_then_read(t: Table) -> Read
     ensures { λ r. ⌜ r ≡ reading (writtenTo (replicate 990 0) t) ⌝ }
     ensures { λ r. ⌜ (AcceptedTable t → r ≡ record { refusal = accepted; table = cleared t }) ⌝ }
@@ -51,7 +51,7 @@ pub fn written_then_read(t: Table) -> Read
     file::read(&room[..written.length])
 }
 
-// "writing a read one returns the file": the length that was written, and the bytes in a buffer that has room for them.
+// Point 2, a file that is read and written back: the length that was written, and the bytes in a buffer that has room for them.
 pub fn read_then_written(file: &[u8], out: &mut [u8]) -> usize
     ensures { λ r. ⌜ r ≡ writing (reading (now (file .entry)) .table) (now (out .entry)) .length ⌝ }
     ensures { λ _. ⌜ now (out .exit) ≡ outAfter (reading (now (file .entry)) .table) (now (out .entry)) ⌝ }
@@ -63,7 +63,7 @@ pub fn read_then_written(file: &[u8], out: &mut [u8]) -> usize
     written.length
 }
 
-// "A task's bound is the smallest whole time from 1 to its deadline that satisfies the response equation; it misses exactly if there is none."
+// Point 2, all tasks judged fresh: RULES 5.5 of each.
 pub fn judged_fresh(t: Table) -> AllJudged
     ensures { λ r. ⌜ r ≡ judgeAll t freshStarts ⌝ }
     ensures { λ r. ⌜ (AcceptedTable t → JudgedRight t r) ⌝ }
@@ -71,8 +71,7 @@ pub fn judged_fresh(t: Table) -> AllJudged
     judge::judge_all(t, [Picos(0); 32])
 }
 
-// "each task started from its older bound, or 0 where it missed: verdict and bound are point 2's for the newer table; the rounds are the
-// equation's from that start, never more than fresh, and at most .."
+// Point 3, a newer table after an older one: from the starts of RULES 6.5 the answers are as RULES 6.6 and 6.7 say.
 pub fn carried(older: Table, newer: Table) -> Rejudged
     ensures { λ r. ⌜ r ≡ rejudging older newer ⌝ }
     ensures { λ r. ⌜ (NewerWorse older newer → CarriedRight older newer r) ⌝ }

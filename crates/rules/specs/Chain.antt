@@ -1,4 +1,4 @@
--- How one refusal is chosen. Assumes nothing.
+-- RULES 9.1: how one refusal is chosen. Assumes nothing.
 use Prim.Native.Nat.{ℕ, zero, suc, _+_}
 use mathlib.Core.Bool.{Bool, cond}
 use lib.Dec.{eqb}
@@ -14,7 +14,7 @@ refused n place = record { number = n; place = place }
 abbrev pub isAccepted : Refusal → Bool
 isAccepted r = eqb (r .number) 0
 
--- "The lowest number that applies is given": the chains below go up by number
+-- RULES 9.1: the first link that refuses. The chains of a file, a table and a start go up by number
 infixl 20 _orElse_
 abbrev pub _orElse_ : Refusal → Refusal → Refusal
 a orElse b = cond (isAccepted a) b a
@@ -28,6 +28,6 @@ unfoldable pub firstFrom : ℕ → (ℕ → Bool) → ℕ → ℕ → Refusal
 firstFrom n fault k zero = accepted
 firstFrom n fault k (suc m) = cond (fault k) (refused n k) (firstFrom n fault (k + 1) m)
 
--- "with a place, counted from 1: the first figure, core or task at fault": of places 1 to m
+-- RULES 9.1: the same of places 1 to m
 abbrev pub first : ℕ → (ℕ → Bool) → ℕ → Refusal
 first n fault m = firstFrom n fault 1 m

@@ -1,5 +1,5 @@
--- "Rounds", the bound, and the judgement of a task from a start. The rounds are those of the crate `equation`, where their theory
--- is; here they get the table's F, and the deciding delay is laid over the bound. Assumes nothing.
+-- RULES 5.5 and 6.1: the bound, and the judgement of a task from a start. The rounds are those of the crate `equation`, where their
+-- theory is; here they get the table's F, and the deciding delay is laid over the bound. Assumes nothing.
 use Prim.Native.Nat.{ℕ, max}
 use Rattle.equation.specs.Outcome as outcome
 use Rattle.equation.specs.Rounds as rounds
@@ -12,37 +12,38 @@ use Rattle.rules.specs.Units.{ps}
 use Rattle.rules.specs.Tasks.{C, latest, taskOf}
 use Rattle.rules.specs.Response.{F, decider}
 
+-- a miss in n rounds
 abbrev pub misses : ℕ → Answer
 misses n = record { verdict = Misses; rounds = n }
 
--- "A task's answer holds, with its bound and which of the two delays decided, or misses."
+-- RULES 5.5: the verdict, by what the rounds ended in
 abbrev pub withDelay : (ℕ → Delay) → outcome.Outcome → Verdict
 withDelay by (outcome.found r) = Holds (ps r) (by r)
 withDelay by outcome.nothing = Misses
 
--- the lowest start: C. Every start that the rounds use is at least this
+-- RULES 6.1: the lowest start, C. Every start that the rounds use is at least this
 unfoldable pub lowest : Table → ℕ → ℕ
 lowest t k = C (taskOf t k)
 
--- "the start is the larger of C and the given start (fresh: 0)"
+-- RULES 6.1: the start that the rounds use
 abbrev pub startOf : Table → ℕ → ℕ → ℕ
 startOf t k given = max (lowest t k) given
 
--- the rounds of task number k of an accepted table from a given start
+-- RULES 6.1: the rounds of task number k from a given start, in an accepted table: there C is at most D (RULES 2.2)
 unfoldable pub roundsOf : Table → ℕ → ℕ → rounds.Solved
 roundsOf t k given = rounds.solve (F t k) (lowest t k) (latest (taskOf t k)) given
 
--- its answer
+-- RULES 6.1: its answer, which carries their number
 unfoldable pub judge : Table → ℕ → ℕ → Answer
 judge t k given =
     let run = roundsOf t k given in
     record { verdict = withDelay (decider t k) (run .verdict); rounds = run .rounds }
 
--- the bound of task number k: "the smallest whole time from 1 to its deadline that satisfies the response equation"
+-- RULES 5.5: R is the bound of task number k
 abbrev pub IsBound : Table → ℕ → ℕ → Type 0
 IsBound t k R = outcome.Smallest (F t k) 1 (latest (taskOf t k)) R
 
--- "each task started from its older bound, or 0 where it missed"
+-- RULES 6.5: the start that an older verdict gives
 abbrev pub boundOf : Verdict → ℕ
 boundOf (Holds r by) = r .0
 boundOf Misses = 0

@@ -1,4 +1,4 @@
--- "DRAM cycles and picoseconds each in a tuple struct; only the multiplication by tCK passes from one to the other." Assumes nothing.
+-- RULES 2.6: DRAM cycles and picoseconds, two types. Assumes nothing.
 use Prim.Native.Nat.{ℕ, _+_, _*_}
 use Rattle.rules.specs.declared.Cycles.{Cycles}
 use Rattle.rules.specs.declared.Picos.{Picos}
@@ -14,6 +14,6 @@ infixl 60 _⊕_
 abbrev pub _⊕_ : Cycles → Cycles → Cycles
 a ⊕ b = cycles (a .0 + b .0)
 
--- "cycles turn into picoseconds only through the clock time"
+-- RULES 2.6: the one passage from the first to the second
 unfoldable pub inTime : Row → Cycles → Picos
 inTime w c = ps (c .0 * tCK w)
