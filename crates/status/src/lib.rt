@@ -1,0 +1,48 @@
+// How a program that lists a file ends: the number that it gives to whoever started it.
+ghost use mathlib.Core.Path.{_≡_};
+ghost use mathlib.Core.Bool.{cond};
+ghost use Prim.Native.Nat.{_≤_};
+ghost use Rattle.rules.specs.Listing.{isMiss};
+ghost use Rattle.status.specs.Status.{allHold, fileStatus};
+use rules::Answer;
+use rules::Verdict;
+
+fn is_miss(verdict: Verdict) -> bool
+    ensures { λ r. ⌜ r ≡ isMiss verdict ⌝ }
+{
+    match verdict {
+        Verdict::Misses => true,
+        Verdict::Holds(_, _) => false,
+    }
+}
+
+// Of an accepted file's answers: 0 where every task holds, 1 where one misses.
+fn of_answers(tasks: u8, answers: [Answer; 32]) -> u8
+    requires { ⌜ tasks ≤ 32 ⌝ }
+    ensures { λ r. ⌜ r ≡ cond (allHold tasks answers) 0 1 ⌝ }
+{
+    let n = tasks as usize;
+    let mut k: usize = 1;
+    while k <= n {
+        let answer = answers[k - 1];
+        let verdict = answer.verdict;
+        if is_miss(verdict) {
+            return 1;
+        }
+        k += 1;
+    }
+    0
+}
+
+// 0 where a file is accepted and every task holds, 1 where it is accepted and a task misses, 2 where it is refused.
+pub fn of_file(file: &[u8]) -> u8
+    ensures { λ r. ⌜ r ≡ fileStatus (now (file .entry)) ⌝ }
+{
+    let refusal = file::check(file);
+    if refusal.number != 0 {
+        return 2;
+    }
+    let judged = verdicts::judge_accepted(file, [0u64; 32]);
+    let answers = judged.answers;
+    of_answers(file[2], answers)
+}
