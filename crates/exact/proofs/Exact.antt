@@ -52,6 +52,7 @@ promises = record {
   list = λ s out. given _ out;
   lines = λ t answers out. given _ out;
   refused = λ number out. given _ out;
+  of-file = λ s. only-one _;
   judge-file = λ s starts bounds rounds by. stored _ _ _ bounds rounds by;
   carry-files = λ older newer bounds rounds by a b p q. stored _ _ _ bounds rounds by a b (p .0, p .1 .stored) (q .0, q .1 .stored);
   carry-code = λ refused. only-one _;

@@ -30,6 +30,7 @@ use Rattle.recarry.specs.declared.CarryRefusal.{CarryRefusal}
 use Rattle.recarry.specs.Files.{carryRefusal, carryCode, CarriedFiles, filesWorsen}
 use Rattle.reasons.specs.Reasons.{reasonText}
 use Rattle.shown.specs.Shown.{taskCount, recordPlace}
+use Rattle.status.specs.Status.{fileStatus}
 
 -- a promise that allows one result; of an operation that is lent buffers, the result with their final bytes
 abbrev pub Exact : {A : Type 0} → (A → Type 0) → Type 0
@@ -65,6 +66,8 @@ pub record Promises : Type 0 where
   pub list : (s out : List ℕ) → Exact (λ (r : ℕ × List ℕ). Given (listing s) out (r .0) (r .1))
   pub lines : (t : Table) (answers : List Answer) (out : List ℕ) → Exact (λ (r : ℕ × List ℕ). Given (tableText t answers) out (r .0) (r .1))
   pub refused : (number : ℕ) (out : List ℕ) → Exact (λ (r : ℕ × List ℕ). Given (refusedLine number) out (r .0) (r .1))
+  -- status
+  pub of-file : (s : List ℕ) → Exact (λ (r : ℕ). r ≡ fileStatus s)
   -- judged
   pub judge-file : (s starts bounds rounds by : List ℕ)
       → Exact (λ (r : Refusal × List ℕ × List ℕ × List ℕ). (r .0 ≡ checkJudgedFile s starts bounds rounds by) × JudgedFile s starts bounds rounds by (r .1) (r .2) (r .3))
