@@ -45,6 +45,7 @@ promises = record {
   check-board = λ t. only-one _;
   check = λ t. only-one _;
   worsens = λ older newer. only-one _;
+  difference = λ older newer. only-one _;
   gate = λ t. only-one _;
   judge-one = λ t k start. only-one _;
   judge-all = λ t starts. only-one _;

@@ -20,6 +20,8 @@ use Rattle.rules.specs.Refusals.{checkTiming, boardRefusal, checkBoard, checkTa
 use Rattle.rules.specs.File.{checkWhole}
 use Rattle.rules.specs.Operations.{checkFile, reading, checkView, viewing, judgeOne, judgeAll}
 use Rattle.rules.specs.Listing.{refusedLine, tableText, listing}
+use Rattle.order.specs.declared.Change.{Change}
+use Rattle.order.specs.Difference as Difference
 use Rattle.judge.specs.Starts.{inPicos}
 use Rattle.rejudge.specs.Carried.{Carried}
 use Rattle.writer.specs.Answers.{Wrote}
@@ -56,6 +58,7 @@ pub record Promises : Type 0 where
   pub check : (t : Table) → Exact (λ (r : Refusal). r ≡ checkTable t)
   -- order
   pub worsens : (older newer : Table) → Exact (λ (r : Bool). r ≡ Order.worsens older newer)
+  pub difference : (older newer : Table) → Exact (λ (r : Change). r ≡ Difference.difference older newer)
   -- judge
   pub gate : (t : Table) → Exact (λ (r : Refusal). r ≡ checkJudged t)
   pub judge-one : (t : Table) (k : ℕ) (start : Picos) → Exact (λ (r : Judged). r ≡ judgeOne t k (start .0))

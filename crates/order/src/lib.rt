@@ -1,101 +1,162 @@
-// The order of two tables: is the newer the older one worsened?
+// The order of two tables: is the newer the older one worsened, and if not, which figure is at fault?
 ghost use mathlib.Core.Path.{_≡_};
 ghost use lib.ListN.{length};
 ghost use Rattle.rules.specs.Order as Order;
-ghost use Rattle.rules.specs.Order.{worseTask, sameBoard};
-ghost use Rattle.order.specs.Same.{alikeTo, allWorse};
+ghost use Rattle.order.specs.Difference as Difference;
+ghost use Rattle.order.specs.Difference.{none, _orElse_, unless, unequal, lower, longer, unlike, countsDifference, boardDifference, taskDifference, tasksDifference};
 use rules::Table;
 use rules::Task;
 
-// The same task with C and H as they were or raised, and T as it was or shortened.
-fn worse_task(i: Task, j: Task) -> bool
-    ensures { λ r. ⌜ r ≡ worseTask i j ⌝ }
-{
-    if i.core != j.core {
-        return false;
-    }
-    if i.deadline.0 != j.deadline.0 {
-        return false;
-    }
-    if j.exec.0 < i.exec.0 {
-        return false;
-    }
-    if j.requests < i.requests {
-        return false;
-    }
-    j.period.0 <= i.period.0
+// A figure at fault: its number, as specs/Difference lists them, its place, and what it was and is. All are 0 where none is.
+pub struct Change {
+    pub what: u8,
+    pub place: u8,
+    pub was: u64,
+    pub is: u64,
 }
 
-// Places 1 to n of two lists are equal; a place beyond both is.
-fn alike(n: usize, a: &[u16], b: &[u16]) -> bool
+fn nothing() -> Change
+    ensures { λ r. ⌜ r ≡ none ⌝ }
+{
+    Change {
+        what: 0,
+        place: 0,
+        was: 0,
+        is: 0,
+    }
+}
+
+// The first, unless it is nothing.
+fn or_else(a: Change, b: Change) -> Change
+    ensures { λ r. ⌜ r ≡ (a orElse b) ⌝ }
+{
+    if a.what == 0 { b } else { a }
+}
+
+// A figure at fault, unless it is fine.
+fn unless(fine: bool, what: u8, place: u8, was: u64, is: u64) -> Change
+    ensures { λ r. ⌜ r ≡ unless fine what place was is ⌝ }
+{
+    if fine {
+        return nothing();
+    }
+    Change {
+        what,
+        place,
+        was,
+        is,
+    }
+}
+
+fn unequal(what: u8, place: u8, was: u64, is: u64) -> Change
+    ensures { λ r. ⌜ r ≡ unequal what place was is ⌝ }
+{
+    unless(was == is, what, place, was, is)
+}
+
+fn lower(what: u8, place: u8, was: u64, is: u64) -> Change
+    ensures { λ r. ⌜ r ≡ lower what place was is ⌝ }
+{
+    unless(was <= is, what, place, was, is)
+}
+
+fn longer(what: u8, place: u8, was: u64, is: u64) -> Change
+    ensures { λ r. ⌜ r ≡ longer what place was is ⌝ }
+{
+    unless(is <= was, what, place, was, is)
+}
+
+// The first of places 1 to n at which two lists are not equal; a place beyond both is.
+fn unlike(what: u8, n: u8, a: &[u16], b: &[u16]) -> Change
     requires { ⌜ length (now a) ≡ length (now b) ⌝ }
-    ensures { λ r. ⌜ r ≡ alikeTo n (now (a .entry)) (now (b .entry)) ⌝ }
+    ensures { λ r. ⌜ r ≡ unlike what n (now (a .entry)) (now (b .entry)) ⌝ }
 {
-    let mut i: usize = 0;
+    let mut i: u8 = 0;
     while i < n {
-        if a.len() <= i {
-            return true;
+        let at = i as usize;
+        if a.len() <= at {
+            return nothing();
         }
-        if a[i] != b[i] {
-            return false;
+        let d = unequal(what, i + 1, a[at] as u64, b[at] as u64);
+        if d.what != 0 {
+            return d;
         }
         i += 1;
     }
-    true
+    nothing()
 }
 
-// The counts, the timing figures and the used sets are the same.
-fn same_board(a: Table, b: Table) -> bool
-    ensures { λ r. ⌜ r ≡ sameBoard a b ⌝ }
+// The counts and the fourth byte.
+fn counts_difference(older: Table, newer: Table) -> Change
+    ensures { λ r. ⌜ r ≡ countsDifference older newer ⌝ }
 {
-    if a.cores != b.cores {
-        return false;
-    }
-    if a.partitions != b.partitions {
-        return false;
-    }
-    if a.tasks != b.tasks {
-        return false;
-    }
-    if a.fourth != b.fourth {
-        return false;
-    }
-    let row = a.timing;
-    let other = b.timing;
-    if !alike(15, &row, &other) {
-        return false;
-    }
-    let sets = a.sets;
-    let others = b.sets;
-    alike(a.cores as usize, &sets, &others)
+    let mut d = unequal(1, 0, older.cores as u64, newer.cores as u64);
+    d = or_else(
+        d,
+        unequal(2, 0, older.partitions as u64, newer.partitions as u64),
+    );
+    d = or_else(d, unequal(3, 0, older.tasks as u64, newer.tasks as u64));
+    or_else(d, unequal(4, 0, older.fourth as u64, newer.fourth as u64))
 }
 
-// Every task of the older table is the same in the newer one, or worse.
-fn worse_tasks(older: Table, newer: Table) -> bool
-    ensures { λ r. ⌜ r ≡ allWorse older newer ⌝ }
+// The counts, the timing figures and the used sets.
+fn board_difference(older: Table, newer: Table) -> Change
+    ensures { λ r. ⌜ r ≡ boardDifference older newer ⌝ }
 {
-    let n = older.tasks as usize;
-    let mut i: usize = 0;
-    while i < n {
+    let mut d = counts_difference(older, newer);
+    let row = older.timing;
+    let other = newer.timing;
+    d = or_else(d, unlike(5, 15, &row, &other));
+    let sets = older.sets;
+    let others = newer.sets;
+    or_else(d, unlike(6, older.cores, &sets, &others))
+}
+
+// Task number k, which was i and is j: the same task, or with C and H raised and T shortened.
+fn task_difference(k: u8, i: Task, j: Task) -> Change
+    ensures { λ r. ⌜ r ≡ taskDifference k i j ⌝ }
+{
+    let mut d = unequal(7, k, i.core as u64, j.core as u64);
+    d = or_else(d, unequal(8, k, i.deadline.0, j.deadline.0));
+    d = or_else(d, lower(9, k, i.exec.0, j.exec.0));
+    d = or_else(d, lower(10, k, i.requests as u64, j.requests as u64));
+    or_else(d, longer(11, k, i.period.0, j.period.0))
+}
+
+// The first task at fault. Beyond the array there is no task.
+fn tasks_difference(older: Table, newer: Table) -> Change
+    ensures { λ r. ⌜ r ≡ tasksDifference older newer ⌝ }
+{
+    let mut i: u8 = 0;
+    while i < older.tasks {
         if 32 <= i {
-            return true;
+            return nothing();
         }
-        let was = older.task[i];
-        let is = newer.task[i];
-        if !worse_task(was, is) {
-            return false;
+        let at = i as usize;
+        let was = older.task[at];
+        let is = newer.task[at];
+        let d = task_difference(i + 1, was, is);
+        if d.what != 0 {
+            return d;
         }
         i += 1;
     }
-    true
+    nothing()
 }
 
-// "Two accepted tables alike but that the newer may raise execution times and request counts and shorten periods."
+// The first figure that keeps the newer table from being the older one worsened.
+pub fn difference(older: Table, newer: Table) -> Change
+    ensures { λ r. ⌜ r ≡ Difference.difference older newer ⌝ }
+{
+    or_else(
+        board_difference(older, newer),
+        tasks_difference(older, newer),
+    )
+}
+
+// Are the two alike but that the newer may raise execution times and request counts and shorten periods? Then nothing is at fault.
 pub fn worsens(older: Table, newer: Table) -> bool
     ensures { λ r. ⌜ r ≡ Order.worsens older newer ⌝ }
 {
-    if !same_board(older, newer) {
-        return false;
-    }
-    worse_tasks(older, newer)
+    difference(older, newer).what == 0
 }
