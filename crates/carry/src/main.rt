@@ -1,85 +1,38 @@
-// carry OLDER NEWER: the newer table's listing, judged from the older one's bounds where that is sound, and what that spared.
+// carry OLDER NEWER: the newer table's listing, judged from the older one's bounds where that is sound. A line on standard error says what that
+// spared, or what stood against it.
+use console::Got;
+use console::note;
+use console::note_number;
+use console::part;
 use line::front;
-use line::labelled;
-use line::word;
 use rules::Answer;
 use rules::Picos;
-use rules::Read;
 use rules::Refusal;
-use rules::Rejudged;
 use rules::Table;
 
-// The first n bytes to standard output.
-fn say(line: &[u8], n: usize) {
-    io::write_all(libc::STDOUT_FILENO, front(line, n));
+// ---- these stand in for `order::Difference`, `order::difference` and `status::of_file`
+
+struct Difference {
+    what: u8,
+    place: u8,
+    was: u64,
+    is: u64,
 }
 
-fn put_place(line: &mut [u8], at: usize, place: u8) -> usize {
-    if place == 0 {
-        return at;
+fn first_difference(older: Table, newer: Table) -> Difference {
+    Difference {
+        what: newer.cores,
+        place: newer.partitions,
+        was: older.cores as u64,
+        is: newer.cores as u64,
     }
-    labelled(line, at, b", place ", place as u64)
 }
 
-// Why, in a few words.
-fn put_reason(line: &mut [u8], at: usize, which: u8) -> usize {
-    let mut words = [0u8; reasons::LONGEST];
-    let n = reasons::reason(which, &mut words);
-    word(line, at, front(&words, n))
+fn of_file(file: &[u8]) -> u8 {
+    if file::check(file).number != 0 { 2 } else { 0 }
 }
 
-fn put_refusal(line: &mut [u8], at: usize, refusal: Refusal) -> usize {
-    let which = labelled(line, at, b": refused ", refusal.number as u64);
-    let place = put_place(line, which, refusal.place);
-    let open = word(line, place, b" (");
-    put_reason(line, open, refusal.number)
-}
-
-// `NAME: refused 9, place 3 (a task's core is not one of the table's)`. A name and the words after it fit the line.
-fn say_refused(name: &[u8], refusal: Refusal) {
-    let mut line = [0u8; 4352];
-    let who = word(&mut line, 0, name);
-    let reason = put_refusal(&mut line, who, refusal);
-    let end = word(&mut line, reason, b")\n");
-    say(&line, end);
-}
-
-fn say_closed(name: &[u8]) {
-    let mut line = [0u8; 4352];
-    let who = word(&mut line, 0, name);
-    let end = word(&mut line, who, b": cannot be opened\n");
-    say(&line, end);
-}
-
-// No more than 7,952 bytes are read: they say what a longer file is read as (`input::front`).
-fn read_file(fd: i32) -> Read {
-    let mut bytes = [0u8; 7952];
-    let k = io::read_full(fd, &mut bytes);
-    libc::close(fd);
-    file::read(input::front(&bytes, k))
-}
-
-// The table of a file. Where there is none a line says why, and the answer is a refusal.
-fn load_named(name: &[u8]) -> Read {
-    let fd = os::open_read(name);
-    if fd < 0 {
-        say_closed(name);
-        return file::read(b"");
-    }
-    let read = read_file(fd);
-    let refusal = read.refusal;
-    if refusal.number != 0 {
-        say_refused(name, refusal);
-    }
-    read
-}
-
-// That of the file that argument i names.
-fn load(i: usize) -> Read {
-    let mut name = io::buffer();
-    let n = os::arg(i, &mut name);
-    load_named(&name[..n])
-}
+// ---- what was spared, or what stood against it
 
 fn plus(a: u64, b: u64) -> u64 {
     if a <= u64::MAX - b { a + b } else { u64::MAX }
@@ -96,16 +49,6 @@ fn rounds(answers: [Answer; 32]) -> u64 {
     sum
 }
 
-// `carried: R rounds, fresh: S`, or that nothing could be carried.
-fn put_spared(line: &mut [u8], at: usize, carried: bool, spent: u64, fresh: u64) -> usize {
-    if !carried {
-        return word(line, at, b"fresh: the tables differ elsewhere\n");
-    }
-    let first = labelled(line, at, b"carried: ", spent);
-    let second = labelled(line, first, b" rounds, fresh: ", fresh);
-    word(line, second, b"\n")
-}
-
 fn fresh_rounds(t: Table) -> u64 {
     let fresh = Picos(0);
     let judged = judge::judge_all(t, [fresh; 32]);
@@ -113,38 +56,127 @@ fn fresh_rounds(t: Table) -> u64 {
     rounds(answers)
 }
 
-fn say_judged(t: Table, again: Rejudged, fresh: u64) {
-    let mut out = [0u8; 4096];
-    let answers = again.answers;
-    let listed = listing::lines(t, answers, &mut out);
-    let end = put_spared(&mut out, listed, again.carried, rounds(answers), fresh);
-    say(&out, end);
+// `carry: 42 rounds from the older bounds, 114 fresh`
+fn note_spared(spent: u64, fresh: u64) {
+    note_number(b"carry: ", spent);
+    note_number(b" rounds from the older bounds, ", fresh);
+    note(b" fresh\n");
 }
 
-fn judge_again(older: Table, newer: Table) {
-    say_judged(
-        newer,
-        rejudge::judge_carried(older, newer),
-        fresh_rounds(newer),
-    );
-}
-
-fn judge_read(older: Read, newer: Read) {
-    if older.refusal.number == 0 && newer.refusal.number == 0 {
-        let a = older.table;
-        let b = newer.table;
-        judge_again(a, b);
+// Whose figure differs, as `console::note_place` counts kinds: a timing figure, a core's, a task's.
+fn kind(what: u8) -> u8 {
+    match what {
+        5 => 1,
+        6 => 3,
+        _ => 4,
     }
+}
+
+// `task 5's execution time`, by the difference's number from 1. A timing figure is named with its place.
+fn note_what(what: u8, place: u8) {
+    if what > 4 {
+        console::note_place(kind(what), place);
+    }
+    note(part(
+        b"the number of cores|the number of partitions|the number of tasks|the fourth byte||'s set|'s core|'s deadline|\
+        's execution time|'s request count|'s period",
+        b'|',
+        what,
+    ));
+}
+
+fn rule(what: u8) -> u8 {
+    match what {
+        9 | 10 => 2,
+        11 => 3,
+        _ => 1,
+    }
+}
+
+// `carry: judged fresh: task 5's execution time was 330000000, is 300000000: it may only rise`
+fn note_difference(d: Difference) {
+    note(b"carry: judged fresh: ");
+    note_what(d.what, d.place);
+    note_number(b" was ", d.was);
+    note_number(b", is ", d.is);
+    note(part(
+        b": it must stay\n|: it may only rise\n|: it may only get shorter\n",
+        b'|',
+        rule(d.what),
+    ));
+}
+
+// ---- the two files
+
+fn refuse(number: u8, was: Refusal, is: Refusal) -> u8 {
+    let mut out = [0u8; 29];
+    let n = listing::refused(number, &mut out);
+    if !console::say(b"carry: ", front(&out, n)) {
+        return 3;
+    }
+    console::explain(b"carry: ", 1, was);
+    console::explain(b"carry: ", 2, is);
+    2
+}
+
+// The newer table's listing, and whether it was written.
+fn judge_again(older: Table, newer: Table) -> bool {
+    let again = rejudge::judge_carried(older, newer);
+    let answers = again.answers;
+    let mut out = [0u8; 3266];
+    let n = listing::lines(newer, answers, &mut out);
+    if !console::say(b"carry: ", front(&out, n)) {
+        return false;
+    }
+    if again.carried {
+        note_spared(rounds(answers), fresh_rounds(newer));
+    } else {
+        note_difference(first_difference(older, newer));
+    }
+    true
+}
+
+fn judge_files(older: &[u8], newer: &[u8]) -> bool {
+    let was = file::read(older);
+    let is = file::read(newer);
+    let a = was.table;
+    let b = is.table;
+    judge_again(a, b)
+}
+
+fn carry(older: &[u8], newer: &[u8]) -> u8 {
+    let was = file::check(older);
+    let is = file::check(newer);
+    if was.number != 0 {
+        return refuse(was.number, was, is);
+    }
+    if is.number != 0 {
+        return refuse(is.number, was, is);
+    }
+    if judge_files(older, newer) {
+        of_file(newer)
+    } else {
+        3
+    }
+}
+
+fn load_both() -> u8 {
+    let mut older = [0u8; 7952];
+    let Got::Bytes(n) = console::load(b"carry: ", 1, &mut older) else {
+        return 3;
+    };
+    let mut newer = [0u8; 7952];
+    let Got::Bytes(m) = console::load(b"carry: ", 2, &mut newer) else {
+        return 3;
+    };
+    carry(input::front(&older, n), input::front(&newer, m))
 }
 
 fn main() {
-    if os::arg_count() < 3 {
-        io::write_all(
-            libc::STDOUT_FILENO,
-            b"call it so: carry OLDER NEWER, two table files\n",
-        );
-        return;
-    }
-    let older = load(1);
-    judge_read(older, load(2));
+    let status = if console::words() == 2 {
+        load_both()
+    } else {
+        console::usage(b"usage: carry OLDER NEWER\n")
+    };
+    console::tell(status);
 }

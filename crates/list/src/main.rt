@@ -1,8 +1,36 @@
-// The listing program: a table file on standard input, its listing on standard output.
-fn main() {
-    let mut file = [0u8; 7952];
-    let n = io::read_full(libc::STDIN_FILENO, &mut file);
+// list [FILE]: the listing of a table file, or of standard input, on standard output.
+use console::Got;
+
+// Stands in for `status::of_file`.
+fn of_file(file: &[u8]) -> u8 {
+    if file::check(file).number != 0 { 2 } else { 0 }
+}
+
+fn show(word: usize, file: &[u8]) -> u8 {
     let mut out = [0u8; 3266];
-    let m = listing::list(input::front(&file, n), &mut out);
-    io::write_all(libc::STDOUT_FILENO, line::front(&out, m));
+    let n = listing::list(file, &mut out);
+    if !console::say(b"list: ", line::front(&out, n)) {
+        return 3;
+    }
+    console::explain(b"list: ", word, file::check(file));
+    of_file(file)
+}
+
+// The file that a word names; word 0 is standard input.
+fn list(word: usize) -> u8 {
+    let mut file = [0u8; 7952];
+    match console::load(b"list: ", word, &mut file) {
+        Got::Failed => 3,
+        Got::Bytes(n) => show(word, input::front(&file, n)),
+    }
+}
+
+fn main() {
+    let words = console::words();
+    let status = if words < 2 {
+        list(words)
+    } else {
+        console::usage(b"usage: list [FILE]\n")
+    };
+    console::tell(status);
 }

@@ -1,0 +1,90 @@
+// Words on standard error.
+use line::front;
+use rules::Refusal;
+
+pub fn note(words: &[u8]) {
+    io::write_all(libc::STDERR_FILENO, words);
+}
+
+// Words and a number behind them.
+pub fn note_number(words: &[u8], n: u64) {
+    note(words);
+    io::print_decimal(libc::STDERR_FILENO, n);
+}
+
+// The k-th part of a text, counted from 1, where `mark` stands between two parts; the last where there are fewer.
+pub fn part(s: &[u8], mark: u8, k: u8) -> &[u8] {
+    let mut left = k;
+    let mut start: usize = 0;
+    let mut i: usize = 0;
+    while i < s.len() {
+        if s[i] == mark {
+            if left <= 1 {
+                return &s[start..i];
+            }
+            left -= 1;
+            start = i + 1;
+        }
+        i += 1;
+    }
+    &s[start..]
+}
+
+// The name of the k-th timing figure or relation, by kind from 1. Nothing else has a name.
+fn note_name(kind: u8, k: u8) {
+    let names = part(
+        b" (tCK)| (tRP)| (tRCD)| (CL)| (WL)| (BL)| (tWTR)| (tWR)| (tRRD)| (tFAW)| (tRAS)| (tRTP)| (tRTRS)| (Ncols)| (Ncap); \
+        (tWR >= tWTR)| (WL + BL/2 + tWTR >= CL)| (tRTP < CL + BL/2 + 2)| (tRCD + hit > tRAS)| (Ncols a multiple of BL);",
+        b';',
+        kind,
+    );
+    note(part(names, b'|', k));
+}
+
+// `timing figure 4 (CL)`, `relation 2 (WL + BL/2 + tWTR >= CL)`, `core 3` or `task 3`, by kind from 1.
+pub fn note_place(kind: u8, k: u8) {
+    note_number(
+        part(b"timing figure |relation |core |task ", b'|', kind),
+        k as u64,
+    );
+    note_name(kind, k);
+}
+
+// ` at task 3`; nothing where a refusal has no place.
+fn note_at(refusal: Refusal) {
+    if refusal.number < 6 || refusal.place == 0 {
+        return;
+    }
+    note(b" at ");
+    note_place(refusal.number - 5, refusal.place);
+}
+
+fn note_file(i: usize) {
+    if i == 0 {
+        note(b"standard input");
+        return;
+    }
+    let mut name = io::large_buffer();
+    let n = os::arg(i, &mut name);
+    note(&name[..n]);
+}
+
+fn note_reason(number: u8) {
+    let mut words = [0u8; reasons::LONGEST];
+    let n = reasons::reason(number, &mut words);
+    note(front(&words, n));
+}
+
+// `list: NAME: refused 9 at task 3: a task's core is not one of the table's`; nothing where the file is accepted.
+pub fn explain(who: &[u8], i: usize, refusal: Refusal) {
+    if refusal.number == 0 {
+        return;
+    }
+    note(who);
+    note_file(i);
+    note_number(b": refused ", refusal.number as u64);
+    note_at(refusal);
+    note(b": ");
+    note_reason(refusal.number);
+    note(b"\n");
+}
