@@ -2,14 +2,14 @@
 mod lines;
 mod raw;
 
+use console::Got;
 use line::front;
 use line::labelled;
 use line::word;
 use lines::accepted;
 use lines::answered;
-use lines::end_line;
 use lines::put_fields;
-use lines::put_refusal;
+use lines::put_part;
 use lines::refused;
 use rules::AllJudged;
 use rules::Judged;
@@ -35,21 +35,7 @@ fn rewrite(table: Table, file: &[u8], out: &mut [u8]) -> usize {
     let mut room = [165u8; 2048];
     let written = writer::write(table, &mut room);
     let n = written.length;
-    accepted(out, n, is_same(front(&room, n), file))
-}
-
-fn is_same(a: &[u8], b: &[u8]) -> bool {
-    if a.len() != b.len() {
-        return false;
-    }
-    let mut i: usize = 0;
-    while i < a.len() {
-        if a[i] != b[i] {
-            return false;
-        }
-        i += 1;
-    }
-    true
+    accepted(out, n, check::same(front(&room, n), file))
 }
 
 // V: a task's record in a file.
@@ -60,7 +46,7 @@ fn view(payload: &[u8], out: &mut [u8]) -> usize {
     if refusal.number != 0 {
         return refused(out, refusal);
     }
-    lines::part(out, file::view(file, k))
+    put_part(out, file::view(file, k))
 }
 
 // The sum of (place from 1) times (byte): the sum of what stands from each place to the end.
@@ -78,32 +64,25 @@ fn weight(s: &[u8]) -> u64
     total
 }
 
-// A table to the first n bytes of a room, or to all of it where that is shorter.
-fn write_front(table: Table, room: &mut [u8], n: usize) -> Written {
-    if n < room.len() {
-        writer::write(table, &mut room[..n])
-    } else {
-        writer::write(table, room)
-    }
+fn at_most(n: usize, most: usize) -> usize
+    ensures { λ r. ⌜ r ≤ most ⌝ }
+{
+    if n < most { n } else { most }
 }
 
+// A table to the first bytes of a room, as many as the payload says, or to all of it where that is shorter.
 fn write_raw(payload: &[u8], room: &mut [u8]) -> Written {
     let all = raw::padded(payload);
-    let n = bytes::le16(&all, 0) as usize;
-    write_front(raw::table(&all, 2), room, n)
+    let n = at_most(bytes::le16(&all, 0) as usize, room.len());
+    writer::write(raw::table(&all, 2), &mut room[..n])
 }
 
 fn put_written(out: &mut [u8], written: Written) -> usize {
     let refusal = written.refusal;
     if refusal.number != 0 {
-        return put_refusal(out, refusal);
+        return refused(out, refusal);
     }
     labelled(out, 0, b"written ", written.length as u64)
-}
-
-fn put_weight(out: &mut [u8], at: usize, weight: u64) -> usize {
-    let end = labelled(out, at, b" ", weight);
-    end_line(out, end)
 }
 
 // W: a table is written to the first bytes of 2,048.
@@ -111,7 +90,7 @@ fn write(payload: &[u8], out: &mut [u8]) -> usize {
     let mut room = [165u8; 2048];
     let written = write_raw(payload, &mut room);
     let end = put_written(out, written);
-    put_weight(out, end, weight(&room))
+    labelled(out, end, b" ", weight(&room))
 }
 
 fn put_one(out: &mut [u8], judged: Judged) -> usize {
@@ -132,17 +111,16 @@ fn judge_one(payload: &[u8], out: &mut [u8]) -> usize {
 
 fn put_outcome(out: &mut [u8], refusal: Refusal) -> usize {
     if refusal.number != 0 {
-        return put_refusal(out, refusal);
+        return refused(out, refusal);
     }
     word(out, 0, b"all")
 }
 
 fn put_all(out: &mut [u8], judged: AllJudged) -> usize {
     let refusal = judged.refusal;
-    let head = put_outcome(out, refusal);
+    let end = put_outcome(out, refusal);
     let answers = judged.answers;
-    let end = put_fields(out, head, answers);
-    end_line(out, end)
+    put_fields(out, end, answers)
 }
 
 // A: all tasks.
@@ -161,48 +139,75 @@ fn list_raw(payload: &[u8], out: &mut [u8]) -> usize {
     listing::lines(table, answers, out)
 }
 
-fn answer(letter: u8, payload: &[u8], out: &mut [u8]) -> usize {
+// An answer of one line, without the line's end.
+fn one_line(letter: u8, payload: &[u8], out: &mut [u8]) -> usize {
     match letter {
-        b'L' => listing::list(payload, out),
         b'R' => reread(payload, out),
         b'V' => view(payload, out),
         b'W' => write(payload, out),
         b'J' => judge_one(payload, out),
         b'A' => judge_all(payload, out),
-        b'T' => list_raw(payload, out),
-        _ => word(out, 0, b"unknown\n"),
+        _ => word(out, 0, b"unknown"),
     }
+}
+
+fn answer(letter: u8, payload: &[u8], out: &mut [u8]) -> usize {
+    match letter {
+        b'L' => listing::list(payload, out),
+        b'T' => list_raw(payload, out),
+        _ => {
+            let end = one_line(letter, payload, out);
+            word(out, end, b"\n")
+        }
+    }
+}
+
+// Whether to go on, or with what status to end.
+enum Next {
+    Case,
+    End(u8),
 }
 
 // The stream ended inside a case.
-fn cut() -> bool {
-    io::write_all(libc::STDOUT_FILENO, b"cut\n");
-    false
+fn cut() -> Next {
+    if console::say(b"conform: ", b"cut\n") {
+        Next::End(0)
+    } else {
+        Next::End(3)
+    }
 }
 
-fn say_answer(letter: u8, payload: &[u8; 65536], n: usize) {
+fn say_answer(letter: u8, payload: &[u8; 65536], n: usize) -> Next {
     let mut out = [0u8; 4096];
     let end = answer(letter, front(payload, n), &mut out);
-    io::write_all(libc::STDOUT_FILENO, front(&out, end));
+    if console::say(b"conform: ", front(&out, end)) {
+        Next::Case
+    } else {
+        Next::End(3)
+    }
 }
 
 // A case after its head: the payload's n bytes are read, and the answer is written.
-fn one_answer(letter: u8, n: u16) -> bool {
+fn one_answer(letter: u8, n: u16) -> Next {
     let mut payload = [0u8; 65536];
     let k = n as usize;
-    if io::read_full(libc::STDIN_FILENO, &mut payload[..k]) < k {
+    let Got::Bytes(got) = console::load(b"conform: ", 0, &mut payload[..k]) else {
+        return Next::End(3);
+    };
+    if got < k {
         return cut();
     }
-    say_answer(letter, &payload, k);
-    true
+    say_answer(letter, &payload, k)
 }
 
-// Reads and answers one case, and says whether to go on.
-fn one_case() -> bool {
+// Reads and answers one case.
+fn one_case() -> Next {
     let mut head = [0u8; 3];
-    let got = io::read_full(libc::STDIN_FILENO, &mut head);
+    let Got::Bytes(got) = console::load(b"conform: ", 0, &mut head) else {
+        return Next::End(3);
+    };
     if got == 0 {
-        return false;
+        return Next::End(0);
     }
     if got < 3 {
         return cut();
@@ -211,9 +216,22 @@ fn one_case() -> bool {
 }
 
 // A proved loop has to end, and nothing says that a stream does: the turns are counted down from a number that no run uses up.
-fn main() {
+fn all_cases() -> u8 {
     let mut turns = u64::MAX;
-    while turns > 0 && one_case() {
+    while turns > 0 {
+        if let Next::End(status) = one_case() {
+            return status;
+        }
         turns -= 1;
     }
+    3
+}
+
+fn main() {
+    let status = if console::words() == 0 {
+        all_cases()
+    } else {
+        console::usage(b"usage: conform\n")
+    };
+    console::tell(status);
 }
