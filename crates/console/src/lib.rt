@@ -41,6 +41,6 @@ pub fn usage(line: &[u8]) -> u8 {
 // How the program ended, from 0 to 3 (a larger number is told as 3): one digit on descriptor 9, since a program has no exit status. Where that is not open
 // nothing is told.
 pub fn tell(status: u8) {
-    let digit = if status < 3 { 48 + status } else { 51 };
+    let digit = if status < 3 { b'0' + status } else { b'3' };
     io::write_all(9, &[digit]);
 }

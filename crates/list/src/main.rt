@@ -28,6 +28,7 @@ fn list(word: usize) -> u8 {
 fn main() {
     let words = console::words();
     let status = if words < 2 {
+        // one word is word 1; with none it is standard input
         list(words)
     } else {
         console::usage(b"usage: list [FILE]\n")
