@@ -5,32 +5,11 @@ use console::note;
 use console::note_number;
 use console::part;
 use line::front;
+use order::Change;
 use rules::Answer;
 use rules::Picos;
 use rules::Refusal;
 use rules::Table;
-
-// ---- these stand in for `order::Difference`, `order::difference` and `status::of_file`
-
-struct Difference {
-    what: u8,
-    place: u8,
-    was: u64,
-    is: u64,
-}
-
-fn first_difference(older: Table, newer: Table) -> Difference {
-    Difference {
-        what: newer.cores,
-        place: newer.partitions,
-        was: older.cores as u64,
-        is: newer.cores as u64,
-    }
-}
-
-fn of_file(file: &[u8]) -> u8 {
-    if file::check(file).number != 0 { 2 } else { 0 }
-}
 
 // ---- what was spared, or what stood against it
 
@@ -94,7 +73,7 @@ fn rule(what: u8) -> u8 {
 }
 
 // `carry: judged fresh: task 5's execution time was 330000000, is 300000000: it may only rise`
-fn note_difference(d: Difference) {
+fn note_difference(d: Change) {
     note(b"carry: judged fresh: ");
     note_what(d.what, d.place);
     note_number(b" was ", d.was);
@@ -131,7 +110,7 @@ fn judge_again(older: Table, newer: Table) -> bool {
     if again.carried {
         note_spared(rounds(answers), fresh_rounds(newer));
     } else {
-        note_difference(first_difference(older, newer));
+        note_difference(order::difference(older, newer));
     }
     true
 }
@@ -154,7 +133,7 @@ fn carry(older: &[u8], newer: &[u8]) -> u8 {
         return refuse(is.number, was, is);
     }
     if judge_files(older, newer) {
-        of_file(newer)
+        status::of_file(newer)
     } else {
         3
     }

@@ -1,11 +1,6 @@
 // list [FILE]: the listing of a table file, or of standard input, on standard output.
 use console::Got;
 
-// Stands in for `status::of_file`.
-fn of_file(file: &[u8]) -> u8 {
-    if file::check(file).number != 0 { 2 } else { 0 }
-}
-
 fn show(word: usize, file: &[u8]) -> u8 {
     let mut out = [0u8; 3266];
     let n = listing::list(file, &mut out);
@@ -13,7 +8,7 @@ fn show(word: usize, file: &[u8]) -> u8 {
         return 3;
     }
     console::explain(b"list: ", word, file::check(file));
-    of_file(file)
+    status::of_file(file)
 }
 
 // The file that a word names; word 0 is standard input.
