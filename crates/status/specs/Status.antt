@@ -1,4 +1,4 @@
--- The number with which a program that lists a file ends. Assumes nothing.
+-- RULES 10.2: the number with which a program that lists a file ends. Assumes nothing.
 use Prim.Native.Nat.{ℕ}
 use mathlib.Core.Bool.{Bool, cond, not}
 use mathlib.Core.List.{List}
