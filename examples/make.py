@@ -1,59 +1,105 @@
 #!/usr/bin/env python3
-"""Writes the example table files beside this script, from the figures below. Not needed to run anything: the files are kept too.
+"""Makes a table file of a description: make.py DESCRIPTION.json OUT.table. As a module: table_file(description) gives the file's bytes.
 
-A table file is little-endian: 4 bytes (cores, partitions, tasks, 0), 15 timing figures of 2 bytes, 2 bytes a core (bit b: partition b + 1),
-29 bytes a task (core 1, C 8, T 8, D 8, H 4), then a trailer of 12: the length before it, the sum of those bytes, the sum of their running sums.
-"""
-import pathlib
-import struct
+examples/README.md says what a description is. Nothing is checked that the reader of a table checks, so that tables which it refuses can be made too.
+Status: 0, or 3 where a file cannot be read or written or the description lacks something, has too much, or has a number that its bytes do not hold."""
+import itertools, json, sys
 
-DDR3_1333 = [1500, 9, 9, 9, 7, 8, 5, 10, 4, 20, 24, 5, 2, 1024, 65535]
-MS = 10**9  # picoseconds
-
-
-def table_file(timing, partitions, sets, tasks):
-    body = bytes([len(sets), partitions, len(tasks), 0])
-    body += b"".join(struct.pack("<H", v) for v in timing + sets)
-    body += b"".join(struct.pack("<BQQQI", *task) for task in tasks)
-    total = running = 0
-    for byte in body:
-        total += byte
-        running += total
-    return body + struct.pack("<III", len(body), total, running)
+FIGURES = "tCK tRP tRCD CL WL BL tWTR tWR tRRD tFAW tRAS tRTP tRTRS Ncols Ncap".split()
+ROWS = {"DDR3-1333": dict(zip(FIGURES, [1500, 9, 9, 9, 7, 8, 5, 10, 4, 20, 24, 5, 2, 1024, 65535]))}
+# a task's figures in the file's order, each with its number of bytes
+TASK = {"core": 1, "C": 8, "T": 8, "D": 8, "H": 4}
 
 
-# Document 01's own example: two cores apart. (core, C, T, D, H)
-three = [(1, MS, 10 * MS, 10 * MS, 1000), (2, 2 * MS, 20 * MS, 20 * MS, 100), (1, 9 * MS, 20 * MS, 20 * MS, 0)]
-
-# A station pump: core 1 flow control, core 2 valves, core 3 sampling, core 4 logging and display; cores 3 and 4 share partition 3.
-PUMP_TIMING = DDR3_1333[:14] + [12]
-PUMP_SETS = [0b0001, 0b0010, 0b0100, 0b1100]
-# for each core: (C in microseconds, period in milliseconds, requests a job), in order of priority
-PUMP = [
-    [(60, 1, 40), (150, 2, 90), (300, 5, 160), (700, 10, 250), (1200, 20, 600), (3500, 50, 900), (9000, 100, 1500), (40000, 500, 4000)],
-    [(50, 1, 30), (120, 2, 60), (250, 5, 120), (800, 10, 300), (1500, 20, 500), (4000, 50, 800), (8000, 100, 1200), (60000, 500, 5000)],
-    [(40, 1, 25), (160, 2, 110), (350, 5, 200), (600, 10, 420), (1600, 20, 700), (3000, 50, 1100), (7000, 100, 2500), (50000, 500, 9000)],
-    [(30, 1, 20), (100, 2, 50), (200, 5, 140), (500, 10, 260), (1000, 20, 450), (2500, 50, 1000), (6000, 100, 3000), (45000, 500, 12000)],
-]
+class Wrong(Exception):
+    """What is wrong with a description, in words."""
 
 
-def pump():
-    """32 tasks: the rate-monotonic order over all cores, core 1 first among equals."""
-    return [(core + 1, PUMP[core][i][0] * MS // 1000, PUMP[core][i][1] * MS, PUMP[core][i][1] * MS, PUMP[core][i][2]) for i in range(8) for core in range(4)]
+def number(what, value, size):
+    if type(value) is not int:
+        raise Wrong(f"{what} is {json.dumps(value)}, and not a whole number")
+    if not 0 <= value < 256**size:
+        raise Wrong(f"{what} is {value}, which does not fit {size} byte{'s' * (size > 1)}")
+    return value.to_bytes(size, "little")
 
 
-def raised(tasks, number, exec_time=None, requests=None):
-    core, c, period, deadline, h = tasks[number - 1]
-    tasks[number - 1] = (core, exec_time or c, period, deadline, requests or h)
-    return tasks
+def entries(what, value, needed, allowed=()):
+    """A dict with each of the needed names and no other but the allowed."""
+    if type(value) is not dict:
+        raise Wrong(f"{what} is no object of names and values")
+    for name in needed:
+        if name not in value:
+            raise Wrong(f"{what} lacks {name}")
+    for name in value:
+        if name not in (*needed, *allowed):
+            raise Wrong(f"{what} has {name}, which means nothing")
+    return value
 
 
-def newer_pump():
-    """The morning's version: task 9 (flow filter, core 1) takes 330 us, task 19 (sample store, core 3) makes 900 requests."""
-    return raised(raised(pump(), 9, exec_time=330 * MS // 1000), 19, requests=900)
+def listed(what, value):
+    if type(value) is not list:
+        raise Wrong(f"{what} is no list")
+    return value
 
 
-here = pathlib.Path(__file__).parent
-(here / "three-tasks.table").write_bytes(table_file(DDR3_1333, 2, [1, 2], three))
-(here / "pump-older.table").write_bytes(table_file(PUMP_TIMING, 4, PUMP_SETS, pump()))
-(here / "pump-newer.table").write_bytes(table_file(PUMP_TIMING, 4, PUMP_SETS, newer_pump()))
+def timing_row(timing):
+    if type(timing) is str:
+        timing = {"like": timing}
+    if type(timing) is dict and "like" in timing:
+        if timing["like"] not in list(ROWS):
+            raise Wrong(f"timing is like {json.dumps(timing['like'])}, and known is {', '.join(ROWS)}")
+        timing = {**ROWS[timing["like"]], **timing}
+    return entries("timing", timing, FIGURES, ["like"])
+
+
+def mask(what, partitions):
+    """2 bytes: bit b stands for partition b + 1."""
+    bits = 0
+    for p in listed(what, partitions):
+        if type(p) is not int or not 1 <= p <= 16:
+            raise Wrong(f"{what} names partition {json.dumps(p)}, and not one of 1 to 16")
+        bits |= 1 << (p - 1)
+    return number(what, bits, 2)
+
+
+def sealed(body):
+    """The file whose trailer fits what stands before it: its length, the sum of its bytes, the sum of their running sums."""
+    running = list(itertools.accumulate(body))
+    sums = {"the length": len(body), "the sum of the bytes": sum(body), "the sum of the running sums": sum(running)}
+    return body + b"".join(number(what, value, 4) for what, value in sums.items())
+
+
+def table_file(description):
+    entries("the description", description, ["partitions", "timing", "sets", "tasks"], ["about", "fourth"])
+    row = timing_row(description["timing"])
+    sets, tasks = listed("sets", description["sets"]), listed("tasks", description["tasks"])
+    body = number("the number of cores", len(sets), 1) + number("partitions", description["partitions"], 1)
+    body += number("the number of tasks", len(tasks), 1) + number("fourth", description.get("fourth", 0), 1)
+    body += b"".join(number(name, row[name], 2) for name in FIGURES)
+    body += b"".join(mask(f"core {q}'s set", partitions) for q, partitions in enumerate(sets, 1))
+    for k, task in enumerate(tasks, 1):
+        entries(f"task {k}", task, TASK, ["name"])
+        body += b"".join(number(f"task {k}'s {name}", task[name], size) for name, size in TASK.items())
+    return sealed(body)
+
+
+def main(words):
+    if len(words) != 2:
+        return "usage: make.py DESCRIPTION.json OUT.table"
+    try:
+        with open(words[0], encoding="utf-8") as described:
+            file = table_file(json.load(described))
+        with open(words[1], "wb") as out:
+            out.write(file)
+    except OSError as fault:
+        return f"make.py: {fault.filename or words[1]}: {fault.strerror}"
+    except (Wrong, ValueError, RecursionError) as fault:  # the last two: the file is not JSON, or not UTF-8, or too deep
+        return f"make.py: {words[0]}: {fault}"
+    return None
+
+
+if __name__ == "__main__":
+    wrong = main(sys.argv[1:])
+    if wrong:
+        print(wrong, file=sys.stderr)
+        sys.exit(3)
