@@ -3,7 +3,7 @@ ghost use mathlib.Core.Path.{_≡_};
 ghost use lib.ListN.{length};
 ghost use Rattle.rules.specs.Order as Order;
 ghost use Rattle.order.specs.Difference as Difference;
-ghost use Rattle.order.specs.Difference.{none, _orElse_, unless, unequal, lower, longer, unlike, countsDifference, boardDifference, taskDifference, tasksDifference};
+ghost use Rattle.order.specs.Difference.{none, change, _orElse_, unequal, unlike, countsDifference, boardDifference, taskDifference, tasksDifference};
 use rules::Table;
 use rules::Task;
 
@@ -26,20 +26,9 @@ fn nothing() -> Change
     }
 }
 
-// The first, unless it is nothing.
-fn or_else(a: Change, b: Change) -> Change
-    ensures { λ r. ⌜ r ≡ (a orElse b) ⌝ }
+fn at_fault(what: u8, place: u8, was: u64, is: u64) -> Change
+    ensures { λ r. ⌜ r ≡ change what place was is ⌝ }
 {
-    if a.what == 0 { b } else { a }
-}
-
-// A figure at fault, unless it is fine.
-fn unless(fine: bool, what: u8, place: u8, was: u64, is: u64) -> Change
-    ensures { λ r. ⌜ r ≡ unless fine what place was is ⌝ }
-{
-    if fine {
-        return nothing();
-    }
     Change {
         what,
         place,
@@ -48,22 +37,21 @@ fn unless(fine: bool, what: u8, place: u8, was: u64, is: u64) -> Change
     }
 }
 
+// The first, unless it is nothing.
+fn or_else(a: Change, b: Change) -> Change
+    ensures { λ r. ⌜ r ≡ (a orElse b) ⌝ }
+{
+    if a.what == 0 { b } else { a }
+}
+
+// A figure that must stay as it was.
 fn unequal(what: u8, place: u8, was: u64, is: u64) -> Change
     ensures { λ r. ⌜ r ≡ unequal what place was is ⌝ }
 {
-    unless(was == is, what, place, was, is)
-}
-
-fn lower(what: u8, place: u8, was: u64, is: u64) -> Change
-    ensures { λ r. ⌜ r ≡ lower what place was is ⌝ }
-{
-    unless(was <= is, what, place, was, is)
-}
-
-fn longer(what: u8, place: u8, was: u64, is: u64) -> Change
-    ensures { λ r. ⌜ r ≡ longer what place was is ⌝ }
-{
-    unless(is <= was, what, place, was, is)
+    if was == is {
+        return nothing();
+    }
+    at_fault(what, place, was, is)
 }
 
 // The first of places 1 to n at which two lists are not equal; a place beyond both is.
@@ -116,11 +104,22 @@ fn board_difference(older: Table, newer: Table) -> Change
 fn task_difference(k: u8, i: Task, j: Task) -> Change
     ensures { λ r. ⌜ r ≡ taskDifference k i j ⌝ }
 {
-    let mut d = unequal(7, k, i.core as u64, j.core as u64);
-    d = or_else(d, unequal(8, k, i.deadline.0, j.deadline.0));
-    d = or_else(d, lower(9, k, i.exec.0, j.exec.0));
-    d = or_else(d, lower(10, k, i.requests as u64, j.requests as u64));
-    or_else(d, longer(11, k, i.period.0, j.period.0))
+    if i.core != j.core {
+        return at_fault(7, k, i.core as u64, j.core as u64);
+    }
+    if i.deadline.0 != j.deadline.0 {
+        return at_fault(8, k, i.deadline.0, j.deadline.0);
+    }
+    if j.exec.0 < i.exec.0 {
+        return at_fault(9, k, i.exec.0, j.exec.0);
+    }
+    if j.requests < i.requests {
+        return at_fault(10, k, i.requests as u64, j.requests as u64);
+    }
+    if i.period.0 < j.period.0 {
+        return at_fault(11, k, i.period.0, j.period.0);
+    }
+    nothing()
 }
 
 // The first task at fault. Beyond the array there is no task.
