@@ -189,7 +189,7 @@ fn say_answer(letter: u8, payload: &[u8; 65536], n: usize) -> Next {
 
 // A case after its head: the payload's n bytes are read, and the answer is written.
 fn one_answer(letter: u8, n: u16) -> Next {
-    let mut payload = [0u8; 65536];
+    let mut payload = io::large_buffer();
     let k = n as usize;
     let Got::Bytes(got) = console::load(b"conform: ", 0, &mut payload[..k]) else {
         return Next::End(3);
