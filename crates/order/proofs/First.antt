@@ -1,12 +1,11 @@
 -- The first change of many places, as a loop finds it: i places have none, and place i + 1 is looked at. Assumes nothing.
 use mathlib.Core.Path.{_≡_, refl, sym, _∙_}
-use mathlib.Core.Bool.{true, false}
 use Prim.Native.Nat.{ℕ, zero, suc, _+_, _-_, _≤_, _<_}
 use native.Mathlib.Nat.{sub-zero}
 use native.Mathlib.Omega.{arith}
 use borrow.Author.Tests.{eq-eqb, ne-eqb}
 use Rattle.order.specs.declared.Change.{Change}
-use Rattle.order.specs.Difference.{none, isNone, _orElse_, firstFrom, firstOf}
+use Rattle.order.specs.Difference.{none, _orElse_, firstFrom, firstOf}
 
 abbrev pub Left : (ℕ → Change) → ℕ → ℕ → Type 0
 Left d n i = firstOf d n ≡ firstFrom d (i + 1) (n - i)
