@@ -1,4 +1,4 @@
--- Which figure keeps a newer table from being the older one worsened: the first at fault, with its place and what it was and is. By number:
+-- RULES 6.8: which figure keeps a newer table from being the older one worsened: the first at fault, with its place and what it was and is. By number:
 --     1 to 4     the number of cores, of partitions, of tasks, and the fourth byte: place 0
 --     5          a timing figure: places 1 to 15
 --     6          the set of a core: places 1 to the number of cores
