@@ -162,69 +162,65 @@ fn answer(letter: u8, payload: &[u8], out: &mut [u8]) -> usize {
     }
 }
 
-// Whether to go on, or with what status to end.
-enum Next {
-    Case,
-    End(u8),
+// The status where the stream goes on. A status that the program ends with is 0 or 3.
+const ON: u8 = 4;
+
+// Writes, and gives the status then.
+fn said(text: &[u8], status: u8) -> u8 {
+    if console::say(b"conform: ", text) {
+        status
+    } else {
+        3
+    }
 }
 
 // The stream ended inside a case.
-fn cut() -> Next {
-    if console::say(b"conform: ", b"cut\n") {
-        Next::End(0)
-    } else {
-        Next::End(3)
-    }
+fn cut() -> u8 {
+    said(b"cut\n", 0)
 }
 
-fn say_answer(letter: u8, payload: &[u8; 65536], n: usize) -> Next {
+fn say_answer(letter: u8, payload: &[u8; 65536], n: usize) -> u8 {
     let mut out = [0u8; 4096];
     let end = answer(letter, front(payload, n), &mut out);
-    if console::say(b"conform: ", front(&out, end)) {
-        Next::Case
-    } else {
-        Next::End(3)
-    }
+    said(front(&out, end), ON)
 }
 
 // A case after its head: the payload's n bytes are read, and the answer is written.
-fn one_answer(letter: u8, n: u16) -> Next {
+fn one_answer(letter: u8, n: u16) -> u8 {
     let mut payload = io::large_buffer();
     let k = n as usize;
     let Got::Bytes(got) = console::load(b"conform: ", 0, &mut payload[..k]) else {
-        return Next::End(3);
+        return 3;
     };
     if got < k {
-        return cut();
+        cut()
+    } else {
+        say_answer(letter, &payload, k)
     }
-    say_answer(letter, &payload, k)
 }
 
 // Reads and answers one case.
-fn one_case() -> Next {
+fn one_case() -> u8 {
     let mut head = [0u8; 3];
     let Got::Bytes(got) = console::load(b"conform: ", 0, &mut head) else {
-        return Next::End(3);
+        return 3;
     };
-    if got == 0 {
-        return Next::End(0);
+    match got {
+        0 => 0,
+        3 => one_answer(head[0], bytes::le16(&head, 1)),
+        _ => cut(),
     }
-    if got < 3 {
-        return cut();
-    }
-    one_answer(head[0], bytes::le16(&head, 1))
 }
 
 // A proved loop has to end, and nothing says that a stream does: the turns are counted down from a number that no run uses up.
 fn all_cases() -> u8 {
     let mut turns = u64::MAX;
-    while turns > 0 {
-        if let Next::End(status) = one_case() {
-            return status;
-        }
+    let mut status = ON;
+    while turns > 0 && status == ON {
+        status = one_case();
         turns -= 1;
     }
-    3
+    status
 }
 
 fn main() {
