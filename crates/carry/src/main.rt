@@ -93,8 +93,8 @@ fn refuse(number: u8, was: Refusal, is: Refusal) -> u8 {
     if !console::say(b"carry: ", front(&out, n)) {
         return 3;
     }
-    console::explain(b"carry: ", 1, was);
-    console::explain(b"carry: ", 2, is);
+    console::explain(b"carry: ", 1, was.number, was.place);
+    console::explain(b"carry: ", 2, is.number, is.place);
     2
 }
 

@@ -1,6 +1,5 @@
 // Words on standard error.
 use line::front;
-use rules::Refusal;
 
 pub fn note(words: &[u8]) {
     io::write_all(libc::STDERR_FILENO, words);
@@ -51,12 +50,12 @@ pub fn note_place(kind: u8, k: u8) {
 }
 
 // ` at task 3`; nothing where a refusal has no place.
-fn note_at(refusal: Refusal) {
-    if refusal.number < 6 || refusal.place == 0 {
+fn note_at(number: u8, place: u8) {
+    if number < 6 || place == 0 {
         return;
     }
     note(b" at ");
-    note_place(refusal.number - 5, refusal.place);
+    note_place(number - 5, place);
 }
 
 fn note_file(i: usize) {
@@ -75,16 +74,16 @@ fn note_reason(number: u8) {
     note(front(&words, n));
 }
 
-// `list: NAME: refused 9 at task 3: a task's core is not one of the table's`; nothing where the file is accepted.
-pub fn explain(who: &[u8], i: usize, refusal: Refusal) {
-    if refusal.number == 0 {
+// `list: NAME: refused 9 at task 3: a task's core is not one of the table's`, by the refusal's number and place; nothing where the number is 0.
+pub fn explain(who: &[u8], i: usize, number: u8, place: u8) {
+    if number == 0 {
         return;
     }
     note(who);
     note_file(i);
-    note_number(b": refused ", refusal.number as u64);
-    note_at(refusal);
+    note_number(b": refused ", number as u64);
+    note_at(number, place);
     note(b": ");
-    note_reason(refusal.number);
+    note_reason(number);
     note(b"\n");
 }

@@ -7,7 +7,8 @@ fn show(word: usize, file: &[u8]) -> u8 {
     if !console::say(b"list: ", line::front(&out, n)) {
         return 3;
     }
-    console::explain(b"list: ", word, file::check(file));
+    let refusal = file::check(file);
+    console::explain(b"list: ", word, refusal.number, refusal.place);
     status::of_file(file)
 }
 
