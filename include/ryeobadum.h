@@ -1,6 +1,7 @@
 /*
  * Response-time bounds under memory interference: reads a table file of tasks, cores, bank partitions and DRAM timing, and
- * says for each task whether it meets its deadline.
+ * says for each task whether it meets its deadline. docs/RULES.md has the rules: what a figure means, how a bound is found (F, C, T,
+ * D and H below are its letters), the file byte by byte, and each refusal.
  *
  * No function keeps state, allocates memory or calls the system; each returns for every input. A buffer is a pointer and a
  * count of its elements, not of bytes; where the count is 0 the pointer isn't followed and may be NULL. A buffer that is
