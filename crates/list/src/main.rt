@@ -1,10 +1,15 @@
 // list [FILE]: the listing of a table file, or of standard input, on standard output.
 use console::Got;
 
-fn show(word: usize, file: &[u8]) -> u8 {
+// The listing, and whether it was written.
+fn write(file: &[u8]) -> bool {
     let mut out = [0u8; 3266];
     let n = listing::list(file, &mut out);
-    if !console::say(b"list: ", line::front(&out, n)) {
+    console::say(b"list: ", line::front(&out, n))
+}
+
+fn show(word: usize, file: &[u8]) -> u8 {
+    if !write(file) {
         return 3;
     }
     let refusal = file::check(file);
