@@ -1,10 +1,10 @@
-// The delay figures (RULES 3) in cycles, as code.
+// A row's figures, and what holds a command off (RULES 3.1 to 3.3), in cycles.
 ghost use mathlib.Core.Path.{_≡_};
-ghost use Prim.Native.Nat.{_+_, _-_, _*_, _/_, _<_, _≤_, min};
+ghost use Prim.Native.Nat.{_+_, _-_, _/_, _<_, _≤_};
 ghost use lib.ListN.{getD};
 ghost use Rattle.laws.specs.Idioms.{_⊖_, larger};
-ghost use Rattle.rules.specs.Timing.{CL, WL, BL, tWTR};
-ghost use Rattle.rules.specs.Delays.{pre, act, readwrite, hit, reopen, conf, run, window};
+ghost use Rattle.rules.specs.Timing.{WL, BL, tWTR};
+ghost use Rattle.rules.specs.Delays.{pre, act, readwrite};
 use rules::Cycles;
 use rules::most;
 
@@ -48,16 +48,10 @@ pub fn figure(row: [u16; 15], k: usize) -> u64
 }
 
 // A difference that falls below zero is never the larger of two, so it is cut off at zero and does not wrap.
-fn less(a: u64, b: u64) -> u64
+pub fn less(a: u64, b: u64) -> u64
     ensures { λ r. ⌜ r ≡ a - b ⌝ }
 {
     if a < b { 0 } else { a - b }
-}
-
-fn least(a: u64, b: u64) -> u64
-    ensures { λ r. ⌜ r ≡ min a b ⌝ }
-{
-    if a < b { a } else { b }
 }
 
 // The larger of a and the difference of x and y.
@@ -65,21 +59,6 @@ fn larger(a: u64, x: u64, y: u64) -> u64
     ensures { λ r. ⌜ r ≡ larger a (x ⊖ y) ⌝ }
 {
     most(a, less(x, y))
-}
-
-// The rules' quotient, which is 0 where the divisor is.
-fn quotient(a: u64, b: u64) -> u64
-    ensures { λ r. ⌜ r ≡ a / b ⌝ }
-{
-    if b == 0 { 0 } else { a / b }
-}
-
-// A count of at most 65535/2 rounded up, times a sum of figures.
-fn times(a: u64, b: u64) -> u64
-    requires { ⌜ (a ≤ 32768) × (b ≤ 163837) ⌝ }
-    ensures { λ r. ⌜ (r ≡ a * b) × (r ≤ 32768 * 163837) ⌝ }
-{
-    a * b
 }
 
 // WL + BL/2 + tWTR: from a write to a read.
@@ -118,51 +97,4 @@ pub fn readwrite(row: [u16; 15]) -> Cycles
     longest = larger(longest, wl + half + rtrs, cl);
     longest = larger(longest, cl + half + rtrs, wl);
     Cycles(larger(longest, half + rtrs, 0))
-}
-
-// RULES 3.4: as long as a read or a write takes, whichever is longer.
-pub fn hit(row: [u16; 15]) -> Cycles
-    ensures { λ r. ⌜ (r ≡ hit row) × (r .0 ≤ 163837) ⌝ }
-{
-    let half = figure(row, BL) / 2;
-    let read = figure(row, CL) + half + 2;
-    let write = figure(row, WL) + half + most(figure(row, TWTR), figure(row, TWR));
-    Cycles(most(read, write))
-}
-
-// tRP + tRCD: closing a row and opening another (RULES 4.3).
-pub fn reopen(row: [u16; 15]) -> Cycles
-    ensures { λ r. ⌜ r ≡ reopen row ⌝ }
-{
-    Cycles(figure(row, TRP) + figure(row, TRCD))
-}
-
-// RULES 3.4.
-pub fn conf(row: [u16; 15]) -> Cycles
-    ensures { λ r. ⌜ r ≡ conf row ⌝ }
-{
-    Cycles(figure(row, TRP) + figure(row, TRCD) + hit(row).0)
-}
-
-// RULES 3.5: the writes, then the reads, then the rest.
-pub fn run(row: [u16; 15], m: u64) -> Cycles
-    requires { ⌜ m ≤ 65535 ⌝ }
-    ensures { λ r. ⌜ r ≡ run row m ⌝ }
-{
-    let writes = times((m + 1) / 2, turn(row));
-    let reads = times(m / 2, figure(row, CL));
-    Cycles(writes + reads + less(figure(row, TWR), figure(row, TWTR)))
-}
-
-// RULES 3.6: an Ncap of 65535 is unknown (RULES 2.4).
-pub fn window(row: [u16; 15]) -> u64
-    ensures { λ r. ⌜ r ≡ window row ⌝ }
-{
-    let bursts = quotient(figure(row, NCOLS), figure(row, BL));
-    let cap = figure(row, NCAP);
-    if cap == 65535 {
-        bursts
-    } else {
-        least(bursts, cap)
-    }
 }

@@ -7,13 +7,13 @@ ghost use Rattle.rules.specs.Delays.{pre, act, readwrite};
 ghost use Rattle.facts.specs.Sound.{SoundRow};
 ghost use Rattle.delays.specs.Figures.{figuresOf};
 use cycles::act;
-use cycles::conf;
 use cycles::figure;
 use cycles::pre;
 use cycles::readwrite;
-use cycles::reopen;
-use cycles::run;
-use cycles::window;
+use hits::conf;
+use hits::reopen;
+use hits::run;
+use hits::window;
 use rules::Cycles;
 use rules::Picos;
 

@@ -89,7 +89,7 @@ fn relation_fault(row: [u16; 15], k: u8) -> bool
             <= figure(row, cycles::TRTP);
     }
     if k == 4 {
-        return figure(row, cycles::TRCD) + cycles::hit(row).0 <= figure(row, cycles::TRAS);
+        return figure(row, cycles::TRCD) + hits::hit(row).0 <= figure(row, cycles::TRAS);
     }
     remainder(figure(row, cycles::NCOLS), figure(row, cycles::BL)) != 0
 }

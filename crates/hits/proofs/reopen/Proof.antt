@@ -1,9 +1,9 @@
--- `cycles::reopen` meets its contract. Assumes nothing.
+-- `hits::reopen` meets its contract. Assumes nothing.
 use native.Mathlib.Omega.{arith}
 use borrow.Author.Needs.{needs}
 use Rattle.rules.specs.Delays.{reopen}
-use Rattle.cycles.proofs.reopen.Statement.{statement}
-use Rattle.cycles.proofs.reopen.Tie as tie
+use Rattle.hits.proofs.reopen.Statement.{statement}
+use Rattle.hits.proofs.reopen.Tie as tie
 
 returns : tie.Need-returns
 unfolding reopen

@@ -1,11 +1,11 @@
--- `cycles::window` meets its contract. Assumes nothing.
+-- `hits::window` meets its contract. Assumes nothing.
 use mathlib.Core.Path.{sym, _∙_}
 use borrow.Author.Needs.{needs}
 use borrow.Author.Tests.{eq-eqb, ne-eqb}
 use Rattle.rules.specs.Timing.{unknown}
 use Rattle.rules.specs.Delays.{window}
-use Rattle.cycles.proofs.window.Statement.{statement}
-use Rattle.cycles.proofs.window.Tie as tie
+use Rattle.hits.proofs.window.Statement.{statement}
+use Rattle.hits.proofs.window.Tie as tie
 
 returns : tie.Need-returns
 unfolding window

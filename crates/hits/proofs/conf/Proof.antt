@@ -1,9 +1,9 @@
--- `cycles::conf` meets its contract. Assumes nothing.
+-- `hits::conf` meets its contract. Assumes nothing.
 use native.Mathlib.Omega.{arith}
 use borrow.Author.Needs.{needs}
 use Rattle.rules.specs.Delays.{reopen, conf}
-use Rattle.cycles.proofs.conf.Statement.{statement}
-use Rattle.cycles.proofs.conf.Tie as tie
+use Rattle.hits.proofs.conf.Statement.{statement}
+use Rattle.hits.proofs.conf.Tie as tie
 
 returns : tie.Need-returns
 unfolding reopen conf

@@ -1,9 +1,9 @@
--- `cycles::run` meets its contract. Assumes nothing.
+-- `hits::run` meets its contract. Assumes nothing.
 use native.Mathlib.Omega.{arith}
 use borrow.Author.Needs.{needs}
 use Rattle.rules.specs.Delays.{run}
-use Rattle.cycles.proofs.run.Statement.{statement}
-use Rattle.cycles.proofs.run.Tie as tie
+use Rattle.hits.proofs.run.Statement.{statement}
+use Rattle.hits.proofs.run.Tie as tie
 
 returns : tie.Need-returns
 unfolding run

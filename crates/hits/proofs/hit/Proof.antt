@@ -1,9 +1,9 @@
--- `cycles::hit` meets its contract. Assumes nothing.
+-- `hits::hit` meets its contract. Assumes nothing.
 use native.Mathlib.Omega.{arith}
 use borrow.Author.Needs.{needs}
 use Rattle.rules.specs.Delays.{hit}
-use Rattle.cycles.proofs.hit.Statement.{statement}
-use Rattle.cycles.proofs.hit.Tie as tie
+use Rattle.hits.proofs.hit.Statement.{statement}
+use Rattle.hits.proofs.hit.Tie as tie
 
 returns : tie.Need-returns
 unfolding hit

@@ -1,8 +1,8 @@
--- `cycles::quotient` meets its contract. Assumes nothing.
+-- `hits::quotient` meets its contract. Assumes nothing.
 use native.Mathlib.Nat.{div-zero}
 use borrow.Author.Needs.{needs}
-use Rattle.cycles.proofs.quotient.Statement.{statement}
-use Rattle.cycles.proofs.quotient.Tie as tie
+use Rattle.hits.proofs.quotient.Statement.{statement}
+use Rattle.hits.proofs.quotient.Tie as tie
 
 returns : tie.Need-returns
 returns c = rw (c .if1 .taken, div-zero)
