@@ -18,7 +18,7 @@ use Rattle.facts.proofs.Reading.{decoded-accepted}
 use Rattle.facts.proofs.Starts.{accepted-judged}
 use Rattle.places.proofs.Places.{sets-limit, after-sets}
 use Rattle.plain.specs.Codes.{codeOf}
-use Rattle.plain.specs.Stored.{checkOutputs}
+use Rattle.stored.specs.Stored.{checkOutputs}
 use Rattle.recarry.specs.declared.CarryRefusal.{CarryRefusal}
 use Rattle.recarry.specs.Files.{tableNumber, checkFiles, faultyFile, checkCarry, carryRefusal, carryCode, filesWorsen}
 use Rattle.shown.specs.Shown.{taskCount, recordPlace}

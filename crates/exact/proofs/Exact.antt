@@ -5,7 +5,7 @@ use Prim.Native.Nat.{ℕ}
 use Rattle.text.specs.Put.{Given}
 use Rattle.rules.specs.declared.Refusal.{Refusal}
 use Rattle.rules.specs.declared.Answer.{Answer}
-use Rattle.plain.specs.Stored.{Stored}
+use Rattle.stored.specs.Stored.{Stored}
 use Rattle.exact.specs.Exact.{Exact, Promises}
 
 -- what equals a rule is one

@@ -14,8 +14,8 @@ use Rattle.rules.specs.Operations.{checkFile, answersFrom, judgeAll}
 use Rattle.file.proofs.Reading.{file-counts}
 use Rattle.facts.proofs.Chain.{passes, refuses, second-decides, stops, goes-on}
 use Rattle.judged.specs.JudgedFile.{checkJudging, checkJudgedFile, answersOf, JudgedFile}
-use Rattle.plain.specs.Stored.{checkOutputs, Stored}
-use Rattle.plain.proofs.Laid.{unchanged}
+use Rattle.stored.specs.Stored.{checkOutputs, Stored}
+use Rattle.stored.proofs.Laid.{unchanged}
 use Rattle.laws.proofs.Filled.{take-filled}
 use Rattle.facts.proofs.LentStarts.{lent-starts}
 

@@ -9,7 +9,7 @@ use Rattle.rules.specs.Chain.{_orElse_}
 use Rattle.rules.specs.Refusals.{checkAll}
 use Rattle.rules.specs.File.{tasksIn, decode}
 use Rattle.rules.specs.Operations.{checkFile}
-use Rattle.plain.specs.Stored.{checkOutputs, Stored}
+use Rattle.stored.specs.Stored.{checkOutputs, Stored}
 
 -- a task that is given no start starts at 0, which is the entry beyond the list's end; starts beyond the tasks mean nothing (RULES 6.3)
 unfoldable pub checkJudging : List ℕ → List ℕ → Refusal

@@ -23,5 +23,5 @@ pub fn judge_file(
         return judged.refusal;
     }
     let answers = judged.answers;
-    plain::store_answers(answers, places::size(file[2]), bounds, rounds, by)
+    stored::store_answers(answers, places::size(file[2]), bounds, rounds, by)
 }

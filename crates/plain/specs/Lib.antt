@@ -1,5 +1,3 @@
 -- What the contracts about plain numbers cite beside the rules.
---     Codes   refusals and verdicts as numbers
---     Stored  answers in three outputs
+--     Codes  refusals and verdicts as numbers
 pub mod Codes
-pub mod Stored

@@ -21,8 +21,8 @@ use Rattle.facts.proofs.Starts.{accepted-judged}
 use Rattle.facts.proofs.Again.{rejudged-verdicts}
 use Rattle.laws.proofs.Filled.{take-filled}
 use Rattle.plain.specs.Codes.{byNumber}
-use Rattle.plain.specs.Stored.{checkOutputs, Stored}
-use Rattle.plain.proofs.Laid.{unchanged}
+use Rattle.stored.specs.Stored.{checkOutputs, Stored}
+use Rattle.stored.proofs.Laid.{unchanged}
 use Rattle.judged.specs.JudgedFile.{answersOf}
 use Rattle.recarry.specs.declared.CarryRefusal.{CarryRefusal}
 use Rattle.recarry.specs.Files.{checkFiles, faultyFile, checkCarry, carryRefusal, carriedAnswers, CarriedFiles, filesWorsen}

@@ -13,7 +13,7 @@ use Rattle.rules.specs.Order.{worsens}
 use Rattle.rules.specs.File.{tasksIn, decode}
 use Rattle.rules.specs.Operations.{checkFile, rejudging}
 use Rattle.plain.specs.Codes.{codeOf}
-use Rattle.plain.specs.Stored.{checkOutputs, laidUnless, boundIn, byIn, Stored}
+use Rattle.stored.specs.Stored.{checkOutputs, laidUnless, boundIn, byIn, Stored}
 use Rattle.judged.specs.JudgedFile.{answersOf}
 use Rattle.recarry.specs.declared.CarryRefusal.{CarryRefusal}
 

@@ -9,7 +9,7 @@ ghost use lib.ListN.{take};
 ghost use Rattle.rules.specs.Chain.{isAccepted};
 ghost use Rattle.rules.specs.Refusals.{checkTable};
 ghost use Rattle.rules.specs.Operations.{rejudging};
-ghost use Rattle.plain.specs.Stored.{checkOutputs, Stored};
+ghost use Rattle.stored.specs.Stored.{checkOutputs, Stored};
 ghost use Rattle.recarry.specs.Files.{carryRefusal, CarriedFiles, filesWorsen, tableNumber, carryCode};
 
 // Why nothing is judged, and which of the two files that is about: neither where an output is too short.
@@ -53,7 +53,7 @@ fn store_after(
 {
     let n = newer.tasks as usize;
     let answers = after::answers_after(older, newer, order::worsens(older, newer));
-    plain::store_answers(answers, n, bounds, rounds, by)
+    stored::store_answers(answers, n, bounds, rounds, by)
 }
 
 // The older file's 1 to 11, then the newer's, then 255 where an output has fewer places than the newer file has tasks; or every task's answer.

@@ -4,9 +4,9 @@ use Prim.Native.Nat.{_-_, _≤_}
 use native.Mathlib.Omega.{arith}
 use borrow.Author.Needs.{needs}
 use lib.ListN.{length}
-use Rattle.plain.proofs.Laid.{Storing, too-short, lengths, fits, storing-next, storing-done}
-use Rattle.plain.proofs.store_answers.Statement.{statement}
-use Rattle.plain.proofs.store_answers.Tie as tie
+use Rattle.stored.proofs.Laid.{Storing, too-short, lengths, fits, storing-next, storing-done}
+use Rattle.stored.proofs.store_answers.Statement.{statement}
+use Rattle.stored.proofs.store_answers.Tie as tie
 
 abbrev Inv-loop : tie.InvT-loop
 Inv-loop n bounds₀ rounds₀ by₀ answers i₀ bounds rounds by i = Storing answers n i bounds₀ rounds₀ by₀ bounds rounds by

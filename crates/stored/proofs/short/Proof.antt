@@ -1,7 +1,7 @@
 -- `short` meets its contract. Assumes nothing.
 use borrow.Author.Tests.{lt-ltb, le-ltb}
-use Rattle.plain.proofs.short.Statement.{statement}
-use Rattle.plain.proofs.short.Tie as tie
+use Rattle.stored.proofs.short.Statement.{statement}
+use Rattle.stored.proofs.short.Tie as tie
 
 returns : tie.Need-returns
 returns c = rw (lt-ltb _ _ (c .if1 .taken))

@@ -13,8 +13,8 @@ use Rattle.rules.specs.declared.Refusal.{Refusal}
 use Rattle.rules.specs.Judgement.{misses}
 use Rattle.rules.specs.Chain.{accepted, refused, isAccepted}
 use Rattle.laws.proofs.Tests.{or-neither}
 use Rattle.plain.specs.Codes.{tooShort}
-use Rattle.plain.specs.Stored.{short, checkOutputs, laidOver, boundIn, roundsIn, byIn, Stored}
+use Rattle.stored.specs.Stored.{short, checkOutputs, laidOver, boundIn, roundsIn, byIn, Stored}
 
 -- ---- one output
 
