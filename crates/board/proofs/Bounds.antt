@@ -13,7 +13,7 @@ use Rattle.rules.specs.Dram.{crossing, conflict}
 use Rattle.facts.specs.Prices.{weight, pricesOf}
 use Rattle.delays.specs.Figures.{figuresOf}
 use Rattle.delays.proofs.Bounds.{bounded}
-use Rattle.board.proofs.Masks.{bit-high, counted}
+use Rattle.sides.proofs.Masks.{bit-high, counted}
 use Rattle.laws.specs.Idioms.{sumOver, those, upTo}
 use Rattle.laws.proofs.Runs.{length-from}
 

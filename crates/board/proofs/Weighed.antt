@@ -23,13 +23,13 @@ use Rattle.facts.proofs.Weights.{share-comm, by-weights}
 use Rattle.delays.specs.declared.Figures.{Figures}
 use Rattle.delays.specs.Figures.{figuresOf, FiguresBounded}
 use Rattle.delays.proofs.Bounds.{bounded}
-use Rattle.board.specs.Masks.{asBit, mask, sideMasks}
+use Rattle.sides.specs.Masks.{asBit, mask, sideMasks}
 use Rattle.board.specs.Costs.{Shows, costsOf}
 use Rattle.board.specs.declared.CoreCosts.{CoreCosts}
 use Rattle.laws.specs.Idioms.{sumOver, those, upTo, entry, isEmpty, from, filled}
 use Rattle.laws.proofs.Sums.{sum-append, upTo-next}
 use Rattle.laws.proofs.Places.{place-of, place-next}
-use Rattle.board.proofs.Masks.{mask-ones, mask-bit, mask-and, mask-none}
+use Rattle.sides.proofs.Masks.{mask-ones, mask-bit, mask-and, mask-none}
 
 -- ---- far goes both ways
 

@@ -13,7 +13,7 @@ use Rattle.facts.specs.Prices.{pricesOf}
 use Rattle.delays.specs.declared.Figures.{Figures}
 use Rattle.delays.specs.Figures.{figuresOf}
 use Rattle.board.specs.declared.CoreCosts.{CoreCosts}
-use Rattle.board.specs.Masks.{mask, sideMasks}
+use Rattle.sides.specs.Masks.{mask, sideMasks}
 
 unfoldable pub costsOf : Table → ℕ → CoreCosts
 costsOf t p = record {

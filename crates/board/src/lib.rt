@@ -1,17 +1,13 @@
-// Near and far from the sets of partitions, and what a request of each core costs: RULES 4 core by core, as numbers.
+// What a request of each core costs: RULES 4.2 to 4.7 core by core, as numbers.
 ghost use mathlib.Core.Path.{_≡_};
 ghost use Prim.Native.Nat.{_-_, _*_, _/_, _%_, _^_, _≤_};
 ghost use lib.Count.{ones};
-ghost use lib.ListN.{replicate};
-ghost use mathlib.Core.Bool.{true, false};
 ghost use Rattle.rules.specs.declared.Table.{Table};
 ghost use Rattle.laws.specs.Idioms.{sumOver, upTo};
-ghost use Rattle.rules.specs.Cores.{share};
 ghost use Rattle.facts.specs.Sound.{SoundRow};
 ghost use Rattle.rules.specs.Dram.{RD};
 ghost use Rattle.facts.specs.Prices.{weight};
 ghost use Rattle.delays.specs.Figures.{FiguresBounded};
-ghost use Rattle.board.specs.Masks.{asBit, mask, onSide, sideMasks};
 ghost use Rattle.board.specs.Costs.{costsOf, allCosts, Shows};
 use delays::Figures;
 use rules::Picos;
@@ -20,67 +16,6 @@ use rules::Picos;
 pub struct CoreCosts {
     pub request: Picos,
     pub weight: [Picos; 8],
-}
-
-// The two sets have a partition in common.
-pub fn shares(a: u16, b: u16) -> bool
-    ensures { λ r. ⌜ r ≡ share a b ⌝ }
-{
-    a & b != 0
-}
-
-// Whether core q is on the near side of p, or on the far side, as a bit.
-fn on_side(sets: &[u16; 8], p: usize, q: usize, near: bool) -> u8
-    requires { ⌜ (1 ≤ p) × (p ≤ 8) × (1 ≤ q) × (q ≤ 8) ⌝ }
-    ensures { λ r. ⌜ (r ≡ asBit (onSide near (now (sets .entry)) p q)) × (r ≤ 1) ⌝ }
-{
-    if q == p {
-        return 0;
-    }
-    if shares(sets[p - 1], sets[q - 1]) == near {
-        1
-    } else {
-        0
-    }
-}
-
-// The cores near a core and those far from it, as bits.
-pub struct Sides {
-    pub near: u8,
-    pub far: u8,
-}
-
-// Those of core p.
-fn sides_of(cores: usize, sets: &[u16; 8], p: usize) -> Sides
-    requires { ⌜ (1 ≤ p) × (p ≤ cores) × (cores ≤ 8) ⌝ }
-    ensures { λ r. ⌜ r .near ≡ mask (onSide true (now (sets .entry)) p) cores ⌝ }
-    ensures { λ r. ⌜ r .far ≡ mask (onSide false (now (sets .entry)) p) cores ⌝ }
-{
-    let mut near: u8 = 0;
-    let mut far: u8 = 0;
-    let mut q = cores;
-    while 0 < q {
-        near = near * 2 + on_side(sets, p, q, true);
-        far = far * 2 + on_side(sets, p, q, false);
-        q -= 1;
-    }
-    Sides { near, far }
-}
-
-// Those of each core.
-fn all_sides(cores: usize, sets: &[u16; 8], near: &mut [u8; 8], far: &mut [u8; 8])
-    requires { ⌜ cores ≤ 8 ⌝ }
-    requires { ⌜ (now near ≡ replicate 8 0) × (now far ≡ replicate 8 0) ⌝ }
-    ensures { λ _. ⌜ now (near .exit) ≡ sideMasks true cores (now (sets .entry)) ⌝ }
-    ensures { λ _. ⌜ now (far .exit) ≡ sideMasks false cores (now (sets .entry)) ⌝ }
-{
-    let mut p: usize = 0;
-    while p < cores {
-        let both = sides_of(cores, sets, p + 1);
-        near[p] = both.near;
-        far[p] = both.far;
-        p += 1;
-    }
 }
 
 // How many cores the bits stand for.
@@ -152,7 +87,7 @@ pub fn all_costs(cores: usize, sets: &[u16; 8], row: [u16; 15]) -> [CoreCosts; 8
     let figures = delays::figures_of(row);
     let mut near = [0u8; 8];
     let mut far = [0u8; 8];
-    all_sides(cores, sets, &mut near, &mut far);
+    sides::all_sides(cores, sets, &mut near, &mut far);
     let free = Picos(0);
     let none = CoreCosts {
         request: free,

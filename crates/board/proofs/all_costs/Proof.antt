@@ -11,7 +11,7 @@ use Rattle.delays.specs.Figures.{figuresOf}
 use Rattle.board.specs.Costs.{costsOf, noCosts, allCosts}
 use Rattle.laws.specs.Idioms.{from, upTo, filled}
 use Rattle.laws.proofs.Places.{place-next, place-of}
-use Rattle.board.specs.Masks.{mask, onSide, sideMasks}
+use Rattle.sides.specs.Masks.{mask, onSide, sideMasks}
 use Rattle.board.proofs.Weighed.{small}
 use Rattle.board.proofs.all_costs.Statement.{statement}
 use Rattle.board.proofs.all_costs.Tie as tie

@@ -5,11 +5,11 @@ use mathlib.Core.List.{map}
 use Prim.Native.Nat.{_-_, _≤_}
 use borrow.Author.Needs.{needs}
 use native.Mathlib.Omega.{arith}
-use Rattle.board.specs.Masks.{mask, onSide, sideMasks}
+use Rattle.sides.specs.Masks.{mask, onSide, sideMasks}
 use Rattle.laws.specs.Idioms.{from, upTo, filled}
 use Rattle.laws.proofs.Places.{place-next}
-use Rattle.board.proofs.all_sides.Statement.{statement}
-use Rattle.board.proofs.all_sides.Tie as tie
+use Rattle.sides.proofs.all_sides.Statement.{statement}
+use Rattle.sides.proofs.all_sides.Tie as tie
 
 abbrev Inv-loop : tie.InvT-loop
 Inv-loop cores sets near₀ far₀ p₀ near far p =

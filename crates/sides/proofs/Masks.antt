@@ -12,7 +12,7 @@ use lib.Bits.{bitAnd, and-step}
 use lib.Count.{ones, ones-step}
 use lib.ListN.{length}
 use Rattle.laws.specs.Idioms.{those, isEmpty, from}
-use Rattle.board.specs.Masks.{asBit, maskFrom}
+use Rattle.sides.specs.Masks.{asBit, maskFrom}
 
 -- ---- one bit more, below the others
 

@@ -5,10 +5,10 @@ use Prim.Native.Nat.{ℕ, _+_, _-_, _*_, _≤_, _<_}
 use borrow.Author.Needs.{needs}
 use native.Mathlib.Nat.{sub-zero}
 use native.Mathlib.Omega.{arith}
-use Rattle.board.specs.Masks.{maskFrom, onSide}
-use Rattle.board.proofs.Masks.{mask-step, mask-room}
-use Rattle.board.proofs.sides_of.Statement.{statement}
-use Rattle.board.proofs.sides_of.Tie as tie
+use Rattle.sides.specs.Masks.{maskFrom, onSide}
+use Rattle.sides.proofs.Masks.{mask-step, mask-room}
+use Rattle.sides.proofs.sides_of.Statement.{statement}
+use Rattle.sides.proofs.sides_of.Tie as tie
 
 abbrev Inv-loop : tie.InvT-loop
 Inv-loop cores sets p near₀ far₀ q₀ near far q =
