@@ -1,4 +1,5 @@
--- How large the weights of a sound table's cores get. Assumes nothing.
+-- How large the figures of a sound row, and the weights of a sound table's cores, get. Assumes nothing.
+use mathlib.Core.Path.{_≡_}
 use mathlib.Core.Bool.{Bool, true, false, cond, not, _&&_}
 use mathlib.Core.List.{List, [], _∷_}
 use Prim.Native.Nat.{ℕ, _+_, _*_, _^_, _≤_, zero-le}
@@ -8,10 +9,12 @@ use lib.Dec.{eqb}
 use lib.ListN.{length}
 use Rattle.rules.specs.declared.Table.{Table}
 use Rattle.rules.specs.Cores.{share, setOf, isNear, isFar, near}
-use Rattle.facts.specs.Sound.{Sound}
+use Rattle.rules.specs.Timing.{Row}
+use Rattle.facts.specs.Sound.{Sound, SoundRow}
 use Rattle.rules.specs.Dram.{crossing, conflict}
 use Rattle.facts.specs.Prices.{weight, pricesOf}
-use Rattle.delays.specs.Figures.{figuresOf}
+use Rattle.delays.specs.declared.Figures.{Figures}
+use Rattle.delays.specs.Figures.{figuresOf, FiguresBounded}
 use Rattle.delays.proofs.Bounds.{bounded}
 use Rattle.sides.proofs.Masks.{bit-high, counted}
 use Rattle.laws.specs.Idioms.{sumOver, those, upTo}
@@ -34,6 +37,9 @@ once : (a b : Bool) (c k m : ℕ) → c ≤ m → k ≤ m → cond (a && not b) 
 once true true c k m hc hk = omega arith
 once true false c k m hc hk = omega arith
 once false b c k m hc hk = zero-le
+
+pub small : {w : Row} {f : Figures} → SoundRow w → f ≡ figuresOf w → FiguresBounded f
+small {w} s e = rw e (bounded w s)
 
 module _ (t : Table) (sound : Sound t) where
   crossing-high : crossing t .0 ≤ 390 * 5000

@@ -1,5 +1,5 @@
 -- The laws that the functions' proofs cite, and those that callers do.
---     Weighed    weights and RD from the bits
---     Bounds     how large the weights get
-pub mod Weighed
+--     Gathered    the costs of a core, as a loop gathers them
+--     Bounds      how large the figures and the weights get
+pub mod Gathered
 pub mod Bounds

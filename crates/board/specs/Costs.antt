@@ -1,19 +1,13 @@
 -- What the requests of other cores cost a core: RD for one request of its own, and for one of its jobs the weight of one request of
 -- each core. Assumes nothing.
 use Prim.Native.Nat.{ℕ}
-use mathlib.Core.Path.{_≡_}
-use mathlib.Core.Bool.{false}
 use mathlib.Core.List.{List, map}
 use lib.ListN.{replicate}
 use Rattle.rules.specs.declared.Table.{Table}
 use Rattle.laws.specs.Idioms.{upTo, filled}
 use Rattle.rules.specs.Units.{ps}
-use Rattle.rules.specs.Cores.{isNear}
 use Rattle.facts.specs.Prices.{pricesOf}
-use Rattle.delays.specs.declared.Figures.{Figures}
-use Rattle.delays.specs.Figures.{figuresOf}
 use Rattle.board.specs.declared.CoreCosts.{CoreCosts}
-use Rattle.sides.specs.Masks.{mask, sideMasks}
 
 unfoldable pub costsOf : Table → ℕ → CoreCosts
 costsOf t p = record {
@@ -27,9 +21,3 @@ noCosts = record { request = ps 0; weight = replicate 8 (ps 0) }
 -- what the cores cost each other
 unfoldable pub allCosts : Table → List CoreCosts
 allCosts t = filled 8 noCosts (map (costsOf t) (upTo (t .cores)))
-
--- a table whose cores near p, whose cores far from each, and whose figures are these
-pub record Shows (p near : ℕ) (far : List ℕ) (f : Figures) (t : Table) : Type 0 where
-  pub near-is : near ≡ mask (isNear t p) (t .cores)
-  pub far-are : far ≡ sideMasks false (t .cores) (t .sets)
-  pub figures-are : f ≡ figuresOf (t .timing)

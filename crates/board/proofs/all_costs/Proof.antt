@@ -12,7 +12,7 @@ use Rattle.board.specs.Costs.{costsOf, noCosts, allCosts}
 use Rattle.laws.specs.Idioms.{from, upTo, filled}
 use Rattle.laws.proofs.Places.{place-next, place-of}
 use Rattle.sides.specs.Masks.{mask, onSide, sideMasks}
-use Rattle.board.proofs.Weighed.{small}
+use Rattle.board.proofs.Bounds.{small}
 use Rattle.board.proofs.all_costs.Statement.{statement}
 use Rattle.board.proofs.all_costs.Tie as tie
 

@@ -4,8 +4,8 @@ use Prim.Native.Nat.{_-_, _*_, _^_, _≤_}
 use borrow.Author.Needs.{needs}
 use native.Mathlib.Omega.{arith}
 use Rattle.rules.specs.declared.Table.{Table}
-use Rattle.board.specs.Costs.{Shows}
-use Rattle.board.proofs.Weighed.{SoFar, so-far-none, so-far-next, so-far-all}
+use Rattle.weights.specs.Shows.{Shows}
+use Rattle.board.proofs.Gathered.{SoFar, so-far-none, so-far-next, so-far-all}
 use Rattle.board.proofs.costs.Statement.{statement}
 use Rattle.board.proofs.costs.Tie as tie
 

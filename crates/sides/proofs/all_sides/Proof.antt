@@ -1,5 +1,5 @@
 -- `all_sides` fills a place a core, in both arrays. Assumes nothing.
-use mathlib.Core.Path.{_≡_, refl}
+use mathlib.Core.Path.{_≡_}
 use mathlib.Core.Bool.{true, false}
 use mathlib.Core.List.{map}
 use Prim.Native.Nat.{_-_, _≤_}

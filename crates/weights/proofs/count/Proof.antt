@@ -3,8 +3,8 @@ use mathlib.Core.Path.{refl}
 use borrow.Author.Needs.{needs}
 use native.Mathlib.Omega.{arith}
 use lib.Count.{ones-le}
-use Rattle.board.proofs.count.Statement.{statement}
-use Rattle.board.proofs.count.Tie as tie
+use Rattle.weights.proofs.count.Statement.{statement}
+use Rattle.weights.proofs.count.Tie as tie
 
 pub count-spec : {M : Type 1} → statement M
 count-spec =

@@ -3,9 +3,9 @@ use Prim.Native.Nat.{_+_, _*_, _^_, _≤_}
 use borrow.Author.Needs.{needs}
 use native.Mathlib.Omega.{arith}
 use Rattle.delays.specs.declared.Figures.{Figures}
-use Rattle.board.proofs.Weighed.{RD-none, RD-some, row-high}
-use Rattle.board.proofs.request_delay.Statement.{statement}
-use Rattle.board.proofs.request_delay.Tie as tie
+use Rattle.weights.proofs.Weighed.{RD-none, RD-some, row-high}
+use Rattle.weights.proofs.request_delay.Statement.{statement}
+use Rattle.weights.proofs.request_delay.Tie as tie
 
 module _ (c : tie.After-count) where
   abbrev start : tie.Start

@@ -1,8 +1,8 @@
 -- Weights and RD from the bits of near and far cores, and from the weights. Assumes nothing.
 use mathlib.Core.Path.{_≡_, refl, ap, fun-ext, sym}
 use mathlib.Core.Bool.{Bool, true, false, cond, _&&_}
-use mathlib.Core.List.{List, [], _∷_, map}
-use Prim.Native.Nat.{ℕ, _+_, _*_, _-_, _/_, _%_, _^_, _≤_, _<_}
+use mathlib.Core.List.{List, [], _∷_}
+use Prim.Native.Nat.{ℕ, _+_, _*_, _-_, _/_, _%_, _^_, _≤_}
 use native.Mathlib.Nat.{mul-le-mul, one-mul, mul-le-mul-right}
 use native.Mathlib.Decide.{ℕ-discrete}
 use native.Mathlib.Omega.{arith}
@@ -10,25 +10,18 @@ use borrow.Author.Tests.{ne-eqb, eq-eqb}
 use lib.Bits.{bitAnd}
 use lib.Count.{ones}
 use lib.Dec.{eqb}
-use lib.ListN.{length, replicate, set}
+use lib.ListN.{length}
 use Rattle.rules.specs.declared.Table.{Table}
-use Rattle.rules.specs.declared.Picos.{Picos}
-use Rattle.rules.specs.Units.{ps}
-use Rattle.rules.specs.Timing.{Row}
 use Rattle.rules.specs.Cores.{setOf, isNear, isFar, near, far}
-use Rattle.facts.specs.Sound.{SoundRow}
 use Rattle.rules.specs.Dram.{crossing, conflict, inter, intra, RD}
-use Rattle.facts.specs.Prices.{weight, pricesOf}
+use Rattle.facts.specs.Prices.{weight}
 use Rattle.facts.proofs.Weights.{share-comm, by-weights}
 use Rattle.delays.specs.declared.Figures.{Figures}
 use Rattle.delays.specs.Figures.{figuresOf, FiguresBounded}
-use Rattle.delays.proofs.Bounds.{bounded}
 use Rattle.sides.specs.Masks.{asBit, mask, sideMasks}
-use Rattle.board.specs.Costs.{Shows, costsOf}
-use Rattle.board.specs.declared.CoreCosts.{CoreCosts}
-use Rattle.laws.specs.Idioms.{sumOver, those, upTo, entry, isEmpty, from, filled}
-use Rattle.laws.proofs.Sums.{sum-append, upTo-next}
-use Rattle.laws.proofs.Places.{place-of, place-next}
+use Rattle.weights.specs.Shows.{Shows}
+use Rattle.laws.specs.Idioms.{sumOver, those, upTo, entry, isEmpty}
+use Rattle.laws.proofs.Places.{place-of}
 use Rattle.sides.proofs.Masks.{mask-ones, mask-bit, mask-and, mask-none}
 
 -- ---- far goes both ways
@@ -109,9 +102,6 @@ pub charge-high : {f : Figures} → FiguresBounded f → (n k : ℕ) → n ≤ 9
 charge-high b n k few one =
     omega (arith, mul-le-mul {n₂ = 9} {m₂ = 390 * 5000} few (b .crossing-high), mul-le-mul {n₂ = 1} {m₂ = 516 * 5000} one (b .conflict-high))
 
-pub small : {w : Row} {f : Figures} → SoundRow w → f ≡ figuresOf w → FiguresBounded f
-small {w} s e = rw e (bounded w s)
-
 -- ---- RD
 
 -- what RD has beside one request of each core
@@ -155,28 +145,3 @@ row-high {f} b n =
     let each : f .window * f .readwrite .0 ≤ 512 * (262 * 5000) = mul-le-mul (b .window-high) (b .readwrite-high) in
     let all : f .window * f .readwrite .0 * n ≤ 512 * (262 * 5000) * n = mul-le-mul-right n each in
     (omega arith, omega (arith, b .run-high, b .reopen-high))
-
--- ---- both costs, as a loop over the cores gathers them: q cores have been weighed
-
-pub record SoFar (t : Table) (p q sum : ℕ) (weights : List Picos) : Type 0 where
-  pub sum-is : sum ≡ sumOver (upTo q) (weight t p)
-  pub weights-are : weights ≡ filled 8 (ps 0) (map (λ r. ps (weight t p r)) (upTo q))
-
-module _ (t : Table) (p : ℕ) where
-  pub so-far-none : SoFar t p 0 0 (replicate 8 (ps 0))
-  unfolding from
-  so-far-none = record { sum-is = refl; weights-are = refl }
-
-  pub so-far-next : {q sum each : ℕ} {weights : List Picos} → SoFar t p q sum weights → q < 8 → each ≡ weight t p (q + 1)
-      → SoFar t p (q + 1) (sum + each) (set weights q (ps each))
-  so-far-next {q} s h e =
-      record {
-        sum-is = rw (upTo-next, sum-append) (omega (arith, s .sum-is));
-        weights-are = rw (s .weights-are, e) (place-next (ps 0) (λ r. ps (weight t p r)) 8 q h);
-      }
-
-  pub so-far-all : {q request sum : ℕ} {weights : List Picos} → SoFar t p q sum weights → q ≡ t .cores
-      → (sum ≡ sumOver (upTo (t .cores)) (weight t p) → request ≡ RD t p)
-      → _≡_ {A = CoreCosts} (record { request = ps request; weight = weights }) (costsOf t p)
-  unfolding costsOf pricesOf
-  so-far-all s e delay = rw (delay (rw e at (s .sum-is)), s .weights-are, e)

@@ -2,9 +2,9 @@
 use Prim.Native.Nat.{ℕ, _+_, _*_, _^_, _≤_}
 use borrow.Author.Needs.{needs}
 use native.Mathlib.Omega.{arith}
-use Rattle.board.proofs.Weighed.{weighed, charge-high}
-use Rattle.board.proofs.weigh.Statement.{statement}
-use Rattle.board.proofs.weigh.Tie as tie
+use Rattle.weights.proofs.Weighed.{weighed, charge-high}
+use Rattle.weights.proofs.weigh.Statement.{statement}
+use Rattle.weights.proofs.weigh.Tie as tie
 
 module _ (c : tie.After-bit2) where
   abbrev start : tie.Start

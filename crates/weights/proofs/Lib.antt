@@ -1,0 +1,3 @@
+-- The laws that the functions' proofs cite.
+--     Weighed    weights and RD from the bits
+pub mod Weighed
