@@ -1,25 +1,29 @@
-//! What the listing program writes for a file.
+//! What is listed for a file, and for a table with its answers.
 
 use std::fmt::{self, Write};
 
 use crate::file;
 use crate::judge::{Answer, By, Judge, Verdict};
+use crate::table::{Table, TASKS};
 
 /// The whole listing, each line ended.
 pub fn listing(bytes: &[u8]) -> String {
+    match file::read(bytes) {
+        Ok(table) => lines(&table, &Judge::of_accepted(&table).all(&[]).expect("a fresh judgement is never refused")),
+        Err(refusal) => format!("refused {}\n", refusal.number),
+    }
+}
+
+/// The lines of an accepted table with its answers.
+pub fn lines(table: &Table, answers: &[Answer; TASKS]) -> String {
     let mut out = String::with_capacity(2048);
-    write_listing(bytes, &mut out).expect("a String takes every write");
+    write_lines(table, answers, &mut out).expect("a String takes every write");
     out
 }
 
-fn write_listing(bytes: &[u8], out: &mut String) -> fmt::Result {
-    let table = match file::read(bytes) {
-        Ok(table) => table,
-        Err(refusal) => return writeln!(out, "refused {}", refusal.number),
-    };
-    let answers = Judge::of_accepted(&table).all(&[]).expect("a fresh judgement is never refused");
+fn write_lines(table: &Table, answers: &[Answer; TASKS], out: &mut String) -> fmt::Result {
     writeln!(out, "task core verdict bound by rounds")?;
-    for (at, (task, answer)) in table.tasks().iter().zip(&answers).enumerate() {
+    for (at, (task, answer)) in table.tasks().iter().zip(answers).enumerate() {
         write_line(out, at + 1, task.core, answer)?;
     }
     match answers[..table.tasks().len()].iter().position(|answer| answer.verdict == Verdict::Misses) {

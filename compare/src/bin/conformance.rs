@@ -9,7 +9,7 @@ use std::process::ExitCode;
 
 use compare_model::file::{self, part};
 use compare_model::judge::{Answer, By, Judge, Verdict};
-use compare_model::listing::{listing, name};
+use compare_model::listing::{lines, listing, name};
 use compare_model::refusal::Refusal;
 use compare_model::table::{Table, Task, FIGURES, TASKS};
 
@@ -66,6 +66,7 @@ fn answer(letter: char, payload: &[u8]) -> String {
         'W' => writing(usize::from(u16::from_le_bytes(part(payload, 0))), &raw(&payload[2..])),
         'J' => line(judge_one(payload[0], u64::from_le_bytes(part(payload, 1)), &raw(&payload[9..]))),
         'A' => judge_all(&payload[..8 * TASKS], &raw(&payload[8 * TASKS..])),
+        'T' => list_raw(&payload[..8 * TASKS], &raw(&payload[8 * TASKS..])),
         _ => panic!("no operation has the letter {letter}"),
     }
 }
@@ -105,9 +106,21 @@ fn judge_one(number: u8, start: u64, table: &Table) -> Result<String, Refusal> {
     })
 }
 
-fn judge_all(starts: &[u8], table: &Table) -> String {
+fn all(starts: &[u8], table: &Table) -> Result<[Answer; TASKS], Refusal> {
     let starts: Vec<u64> = starts.chunks_exact(8).map(|bytes| u64::from_le_bytes(part(bytes, 0))).collect();
-    let (head, answers) = match Judge::new(table).and_then(|judge| judge.all(&starts)) {
+    Judge::new(table)?.all(&starts)
+}
+
+/// A table that is passed directly, listed: where only its starts are refused, with misses in 0 rounds.
+fn list_raw(starts: &[u8], table: &Table) -> String {
+    match table.check() {
+        Ok(()) => lines(table, &all(starts, table).unwrap_or([Answer::default(); TASKS])),
+        Err(refusal) => format!("refused {}\n", refusal.number),
+    }
+}
+
+fn judge_all(starts: &[u8], table: &Table) -> String {
+    let (head, answers) = match all(starts, table) {
         Ok(answers) => ("all".to_owned(), answers),
         Err(refusal) => (refused(refusal), [Answer::default(); TASKS]),
     };
