@@ -73,7 +73,7 @@ pub fn put_rows(buf: &mut [u8], at: usize, t: Table, answers: [Answer; 32]) -> u
     end
 }
 
-fn is_miss(verdict: Verdict) -> bool
+pub fn is_miss(verdict: Verdict) -> bool
     ensures { λ r. ⌜ r ≡ isMiss verdict ⌝ }
 {
     match verdict {

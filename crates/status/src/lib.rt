@@ -2,19 +2,8 @@
 ghost use mathlib.Core.Path.{_≡_};
 ghost use mathlib.Core.Bool.{cond};
 ghost use Prim.Native.Nat.{_≤_};
-ghost use Rattle.rules.specs.Listing.{isMiss};
 ghost use Rattle.status.specs.Status.{allHold, fileStatus};
 use rules::Answer;
-use rules::Verdict;
-
-fn is_miss(verdict: Verdict) -> bool
-    ensures { λ r. ⌜ r ≡ isMiss verdict ⌝ }
-{
-    match verdict {
-        Verdict::Misses => true,
-        Verdict::Holds(_, _) => false,
-    }
-}
 
 // Of an accepted file's answers: 0 where every task holds, 1 where one misses.
 fn of_answers(tasks: u8, answers: [Answer; 32]) -> u8
@@ -26,7 +15,7 @@ fn of_answers(tasks: u8, answers: [Answer; 32]) -> u8
     while k <= n {
         let answer = answers[k - 1];
         let verdict = answer.verdict;
-        if is_miss(verdict) {
+        if rows::is_miss(verdict) {
             return 1;
         }
         k += 1;
