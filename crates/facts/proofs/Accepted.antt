@@ -3,56 +3,21 @@ use mathlib.Core.Path.{_≡_}
 use mathlib.Core.Bool.{true, false, not, _&&_}
 use Prim.Native.Nat.{ℕ, _≤_, _<_, _^_}
 use native.Mathlib.Omega.{arith}
-use lib.Dec.{leb, ltb, eqb}
-use borrow.Author.Tests.{leb-true, ltb-true, ltb-false, eqb-true, eqb-false, not-false}
+use lib.Dec.{ltb, eqb}
+use borrow.Author.Tests.{ltb-true, ltb-false, eqb-false, not-false}
 use Rattle.rules.specs.declared.Table.{Table}
 use Rattle.rules.specs.declared.Refusal.{Refusal}
-use Rattle.rules.specs.Timing.{Row, tWR, tWTR, ranges}
 use Rattle.rules.specs.Tasks.{C, T, D, H, taskOf}
 use Rattle.rules.specs.Cores.{setOf}
+use Rattle.rules.specs.Kinds.{fourthAllowed}
 use Rattle.rules.specs.Chain.{isAccepted, _orElse_, given, first}
-use Rattle.rules.specs.Refusals.{fourthAllowed, countsFault, figureFault, relationsHold, relationFault, checkTiming, setFault, coreFault, timeFault, requestFault, boardRefusal, tasksRefusal, checkBoard, checkTasks, checkTable}
-use Rattle.facts.specs.Sound.{SoundRow, SoundTask, Sound}
+use Rattle.rules.specs.Refusals.{countsFault, checkRow, setFault, coreFault, timeFault, requestFault, boardRefusal, tasksRefusal, checkBoard, checkTasks, checkTable}
+use Rattle.facts.specs.Sound.{SoundTask, Sound}
 use Rattle.facts.proofs.First.{none-first}
+use Rattle.facts.proofs.Rows.{sound-row, sound-slot, is-dram, is-bus, row-high}
 use Rattle.facts.proofs.Chain.{both-accepted, no-fault}
-use Rattle.laws.specs.Idioms.{entry, within, Within}
+use Rattle.laws.specs.Idioms.{within, Within}
 use Rattle.laws.proofs.Tests.{and-both, or-neither, inside}
-
--- ---- the row
-
-module _ (w : Row) (passed : isAccepted (checkTiming w) ≡ true) where
-  links : (isAccepted (first 6 (figureFault w) 15) ≡ true) × (isAccepted (first 7 (relationFault w) 5) ≡ true)
-  unfolding checkTiming
-  links = both-accepted (first 6 (figureFault w) 15) (first 7 (relationFault w) 5) passed
-
-  pub figure : (k : ℕ) → 1 ≤ k → k ≤ 15 → Within (entry (0, 0) ranges k .0) (entry (0, 0) ranges k .1) (entry 0 w k)
-  unfolding figureFault
-  figure k low high =
-      inside _ _ _ (not-false _ (or-neither _ _ (none-first 5 (figureFault w) 15 (links .0) k low high) .0))
-
-  relation-one : leb (tWTR w) (tWR w) ≡ true
-  unfolding relationFault relationsHold
-  relation-one = not-false _ (none-first 6 (relationFault w) 5 (links .1) 1 (omega arith) (omega arith))
-
-  sound-row : SoundRow w
-  unfolding ranges
-  sound-row = record {
-    tCK-in = figure 1 (omega arith) (omega arith);
-    tRP-in = figure 2 (omega arith) (omega arith);
-    tRCD-in = figure 3 (omega arith) (omega arith);
-    CL-in = figure 4 (omega arith) (omega arith);
-    WL-in = figure 5 (omega arith) (omega arith);
-    BL-in = figure 6 (omega arith) (omega arith);
-    tWTR-in = figure 7 (omega arith) (omega arith);
-    tWR-in = figure 8 (omega arith) (omega arith);
-    tRRD-in = figure 9 (omega arith) (omega arith);
-    tFAW-in = figure 10 (omega arith) (omega arith);
-    tRTRS-in = figure 13 (omega arith) (omega arith);
-    Ncols-in = figure 14 (omega arith) (omega arith);
-    recovery = leb-true (tWTR w) (tWR w) relation-one;
-  }
-
--- ---- the table
 
 module _ (t : Table) (passed : isAccepted (checkTable t) ≡ true) where
   board-passed : isAccepted (checkBoard t) ≡ true
@@ -66,26 +31,29 @@ module _ (t : Table) (passed : isAccepted (checkTable t) ≡ true) where
   counts-link : Refusal
   counts-link = given 5 0 (countsFault (t .cores) (t .partitions) (t .tasks) (t .fourth))
 
+  row-link : Refusal
+  row-link = checkRow (t .fourth) (t .timing)
+
   sets-link : Refusal
   sets-link = first 8 (λ p. setFault (t .partitions) (setOf t p)) (t .cores)
 
-  board-links : (isAccepted (counts-link orElse checkTiming (t .timing)) ≡ true) × (isAccepted sets-link ≡ true)
-  unfolding checkBoard boardRefusal counts-link sets-link
-  board-links = both-accepted (counts-link orElse checkTiming (t .timing)) sets-link board-passed
+  board-links : (isAccepted (counts-link orElse row-link) ≡ true) × (isAccepted sets-link ≡ true)
+  unfolding checkBoard boardRefusal counts-link row-link sets-link
+  board-links = both-accepted (counts-link orElse row-link) sets-link board-passed
 
-  first-links : (isAccepted counts-link ≡ true) × (isAccepted (checkTiming (t .timing)) ≡ true)
-  first-links = both-accepted counts-link (checkTiming (t .timing)) (board-links .0)
+  first-links : (isAccepted counts-link ≡ true) × (isAccepted row-link ≡ true)
+  first-links = both-accepted counts-link row-link (board-links .0)
 
-  counts-hold : within 1 8 (t .cores) && within 1 16 (t .partitions) && within 1 32 (t .tasks) && eqb (t .fourth) 0 ≡ true
+  counts-hold : within 1 8 (t .cores) && within 1 16 (t .partitions) && within 1 32 (t .tasks) && ltb (t .fourth) 2 ≡ true
   unfolding counts-link countsFault fourthAllowed
   counts-hold = not-false _ (no-fault 4 0 (countsFault (t .cores) (t .partitions) (t .tasks) (t .fourth)) (first-links .0))
 
-  counts : (Within 1 8 (t .cores) × Within 1 16 (t .partitions)) × (Within 1 32 (t .tasks) × (t .fourth ≡ 0))
+  counts : (Within 1 8 (t .cores) × Within 1 16 (t .partitions)) × (Within 1 32 (t .tasks) × (t .fourth < 2))
   counts =
       let fourth = and-both _ _ counts-hold in
       let tasks = and-both _ _ (fourth .0) in
       let rest = and-both _ _ (tasks .0) in
-      ((inside 1 8 _ (rest .0), inside 1 16 _ (rest .1)), (inside 1 32 _ (tasks .1), eqb-true (t .fourth) 0 (fourth .1)))
+      ((inside 1 8 _ (rest .0), inside 1 16 _ (rest .1)), (inside 1 32 _ (tasks .1), ltb-true (t .fourth) 2 (fourth .1)))
 
   module _ (p : ℕ) (low : 1 ≤ p) (high : p ≤ t .cores) where
     set-clear : (eqb (setOf t p) 0 ≡ false) × (not (ltb (setOf t p) (2 ^ t .partitions)) ≡ false)
@@ -133,16 +101,19 @@ module _ (t : Table) (passed : isAccepted (checkTable t) ≡ true) where
           H-high = ltb-false _ _ requests-fit;
         }
 
-  pub timing-passed : isAccepted (checkTiming (t .timing)) ≡ true
-  timing-passed = first-links .1
+  row-passed : isAccepted (checkRow (t .fourth) (t .timing)) ≡ true
+  unfolding row-link
+  row-passed = first-links .1
 
   pub sound : Sound t
   sound = record {
     cores-in = counts .0 .0;
     partitions-in = counts .0 .1;
     tasks-in = counts .1 .0;
-    fourth-zero = counts .1 .1;
-    row = sound-row (t .timing) timing-passed;
+    fourth-low = counts .1 .1;
+    figure-high = row-high (t .fourth) (t .timing) row-passed;
+    row = λ dram. sound-row (t .timing) (is-dram (t .fourth) (t .timing) row-passed dram);
+    slot-in = λ bus. sound-slot (t .timing) (is-bus (t .fourth) (t .timing) row-passed bus);
     set-some = λ p low high. set-facts p low high .0;
     set-high = λ p low high. set-facts p low high .1;
     task-sound = task-facts;

@@ -25,7 +25,7 @@ use Rattle.laws.specs.Idioms.{sumOver}
 use Rattle.laws.proofs.Paired.{paired-map}
 use Rattle.facts.proofs.Kept.{Kept, kept-no-more, kept, kept-higher}
 use Rattle.facts.proofs.Memory.{response-equation, response-steps, response-worse}
-use Rattle.facts.proofs.Dram.{memory-steady, memory-slower}
+use Rattle.facts.proofs.Boards.{memory-steady, memory-slower}
 use Rattle.facts.proofs.Worsened.{worsened}
 
 -- the counts through which F looks at the time

@@ -2,6 +2,7 @@
 --     Reading     what an accepted file is known to be
 --     First       the first place at fault
 --     Chain       a chain of refusals that gives none
+--     Rows        the figures of an accepted row
 --     Accepted    an accepted table is sound
 --     SoundTasks  and so are its tasks
 --     Weights     DRAM's job delay by core
@@ -11,7 +12,9 @@
 --     Worsened    the test of a table worsened, taken apart
 --     Alike       boards alike in their used places
 --     Kept        the tasks of such tables, number by number
---     Dram        a board's memory by its prices, DRAM's
+--     Dram        DRAM as a kind of board
+--     Bus         a bus as a kind of board
+--     Boards      any board's memory by its prices
 --     Instance    the equation of an accepted table
 --     Starts      the starts that are not refused
 --     LentStarts  a judgement looks only at the starts of its tasks
@@ -20,6 +23,7 @@
 --     Again       a newer table has its fresh verdicts, carried or not
 pub mod First
 pub mod Chain
+pub mod Rows
 pub mod Accepted
 pub mod Reading
 pub mod SoundTasks
@@ -31,6 +35,8 @@ pub mod Worsened
 pub mod Alike
 pub mod Kept
 pub mod Dram
+pub mod Bus
+pub mod Boards
 pub mod Instance
 pub mod Starts
 pub mod LentStarts
