@@ -1,15 +1,16 @@
--- What refusal 5 decides, and what it leaves to 6 to 8: counts within their limits. Assumes nothing.
+-- What refusal 5 decides, and what it leaves to those after it: counts within their limits. Assumes nothing.
 use Prim.Native.Nat.{ℕ, _≤_}
 use mathlib.Core.Path.{_≡_}
 use mathlib.Core.Bool.{true, false, _&&_}
 use mathlib.Core.List.{List}
-use lib.Dec.{eqb}
+use lib.Dec.{ltb}
 use borrow.Author.Tests.{not-false}
 use Rattle.laws.specs.Idioms.{entry, within}
 use Rattle.laws.proofs.Tests.{and-both, inside}
 use Rattle.rules.specs.Timing.{Row}
 use Rattle.rules.specs.Chain.{refused, _orElse_, first}
-use Rattle.rules.specs.Refusals.{fourthAllowed, countsFault, setFault, checkTiming, boardRefusal}
+use Rattle.rules.specs.Kinds.{fourthAllowed}
+use Rattle.rules.specs.Refusals.{countsFault, setFault, checkRow, boardRefusal}
 
 module _ (cores partitions tasks fourth : ℕ) where
   module _ (row : Row) (sets : List ℕ) where
@@ -18,11 +19,11 @@ module _ (cores partitions tasks fourth : ℕ) where
     counts-refuse e = simp e
 
     pub counts-pass : countsFault cores partitions tasks fourth ≡ false
-        → checkTiming row orElse first 8 (λ p. setFault partitions (entry 0 sets p)) cores ≡ boardRefusal cores partitions tasks fourth row sets
+        → checkRow fourth row orElse first 8 (λ p. setFault partitions (entry 0 sets p)) cores ≡ boardRefusal cores partitions tasks fourth row sets
     unfolding boardRefusal
     counts-pass e = simp e
 
-  counts-hold : countsFault cores partitions tasks fourth ≡ false → within 1 8 cores && within 1 16 partitions && within 1 32 tasks && eqb fourth 0 ≡ true
+  counts-hold : countsFault cores partitions tasks fourth ≡ false → within 1 8 cores && within 1 16 partitions && within 1 32 tasks && ltb fourth 2 ≡ true
   unfolding countsFault fourthAllowed
   counts-hold e = not-false _ e
 

@@ -1,15 +1,16 @@
-// Checks 5 to 11 of a table, in their order: 5 to 8 of its board, of which 6 and 7 are in `timing`, then 9 to 11, which are in `tasks`.
+// Checks 5 to 11 and 16 of a table, in their order: 5 to 8 of its board, of which 6 and 7 are in `timing` and 16, in their place, is in `bus`; then 9 to 11,
+// which are in `tasks`.
 ghost use mathlib.Core.Path.{_≡_};
 ghost use Prim.Native.Nat.{_≤_};
 ghost use Rattle.laws.specs.Idioms.{entry};
 ghost use Rattle.rules.specs.Chain.{first};
-ghost use Rattle.rules.specs.Refusals.{countsFault, setFault, boardRefusal, checkBoard, checkTable};
+ghost use Rattle.rules.specs.Refusals.{countsFault, checkRow, setFault, boardRefusal, checkBoard, checkTable};
 use rules::Refusal;
 use rules::Table;
 use rules::refused;
 use tasks::outside;
 
-// Is a count outside its limits, or the fourth byte not 0 (RULES 2.1)?
+// Is a count outside its limits, or a bit of the fourth byte set that no table has (RULES 2.1)?
 fn counts_fault(cores: u8, partitions: u8, tasks: u8, fourth: u8) -> bool
     ensures { λ r. ⌜ r ≡ countsFault cores partitions tasks fourth ⌝ }
 {
@@ -22,7 +23,7 @@ fn counts_fault(cores: u8, partitions: u8, tasks: u8, fourth: u8) -> bool
     if outside(1, 32, tasks as u64) {
         return true;
     }
-    if fourth != 0 {
+    if 1 < fourth {
         return true;
     }
     false
@@ -41,6 +42,16 @@ fn set_fault(partitions: u8, set: u16) -> bool
     false
 }
 
+// 6 and 7, or 16: the timing figures, by the table's kind.
+fn check_row(fourth: u8, row: [u16; 15]) -> Refusal
+    ensures { λ r. ⌜ r ≡ checkRow fourth row ⌝ }
+{
+    if rules::says_bus(fourth) {
+        return bus::check(row);
+    }
+    timing::check(row)
+}
+
 // Refusal 8 (RULES 9.3), with the first core whose set is at fault (RULES 2.3).
 fn check_sets(cores: u8, partitions: u8, sets: &[u16; 8]) -> Refusal
     requires { ⌜ (cores ≤ 8) × (partitions ≤ 16) ⌝ }
@@ -56,7 +67,7 @@ fn check_sets(cores: u8, partitions: u8, sets: &[u16; 8]) -> Refusal
     refused(0, 0)
 }
 
-// 5 to 8: the board, by its counts, its timing figures and its sets.
+// 5 to 8 and 16: the board, by its counts, its timing figures and its sets.
 pub fn board_refusal(
     cores: u8,
     partitions: u8,
@@ -70,9 +81,9 @@ pub fn board_refusal(
     if counts_fault(cores, partitions, tasks, fourth) {
         return refused(5, 0);
     }
-    let timing = timing::check(row);
-    if timing.number != 0 {
-        return timing;
+    let figures = check_row(fourth, row);
+    if figures.number != 0 {
+        return figures;
     }
     check_sets(cores, partitions, sets)
 }
@@ -85,7 +96,7 @@ pub fn check_board(t: Table) -> Refusal
     board_refusal(t.cores, t.partitions, t.tasks, t.fourth, row, &sets)
 }
 
-// 5 to 11: what a table passed directly meets (RULES 9.4).
+// 5 to 11 and 16: what a table passed directly meets (RULES 9.4).
 pub fn check(t: Table) -> Refusal
     ensures { λ r. ⌜ r ≡ checkTable t ⌝ }
 {

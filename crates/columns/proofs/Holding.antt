@@ -19,7 +19,7 @@ use Rattle.rules.specs.declared.Table.{Table}
 use Rattle.rules.specs.Tasks.{C, T, H, latest, noTask, tasksOf, taskOf, coreOf, isOn, tasksOn, higher}
 use Rattle.facts.specs.Sound.{Sound, SoundTask}
 use Rattle.facts.proofs.SoundTasks.{tasks-there}
-use Rattle.board.specs.Costs.{costsOf, noCosts, allCosts}
+use Rattle.prices.specs.Costs.{costsOf, noCosts, allCosts}
 use Rattle.groups.specs.Grouped.{placesOn, Ordered}
 use Rattle.groups.specs.Columns.{PerTask, InOrder, Columns}
 use Rattle.groups.proofs.PlacesOn.{places-none, places-next, places-few, places-first, own-within, own-place}

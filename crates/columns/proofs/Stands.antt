@@ -21,8 +21,8 @@ use Rattle.rules.specs.Judgement.{withDelay, lowest, roundsOf, judge}
 use Rattle.rules.specs.Refusals.{highStart}
 use Rattle.facts.specs.Sound.{Sound, SoundTask}
 use Rattle.facts.proofs.SoundTasks.{sound-all, sound-higher}
-use Rattle.facts.proofs.Dram.{memory-priced}
-use Rattle.board.specs.Costs.{costsOf}
+use Rattle.facts.proofs.Boards.{memory-priced}
+use Rattle.prices.specs.Costs.{costsOf}
 use Rattle.laws.specs.Idioms.{sumOver, from, upTo}
 use Rattle.laws.proofs.Sums.{sum-append, upTo-next}
 use Rattle.laws.proofs.Members.{member-those}

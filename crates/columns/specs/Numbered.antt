@@ -6,7 +6,7 @@ use Rattle.rules.specs.declared.Refusal.{Refusal}
 use Rattle.rules.specs.declared.Judged.{Judged}
 use Rattle.rules.specs.Judgement.{misses, judge}
 use Rattle.rules.specs.Refusals.{highStart}
-use Rattle.board.specs.Costs.{allCosts}
+use Rattle.prices.specs.Costs.{allCosts}
 use Rattle.climb.specs.declared.Climbed.{Climbed}
 use Rattle.rounds.specs.declared.Priced.{Priced}
 

@@ -67,7 +67,7 @@ fn priced(table: Table) -> Priced
     let cores = table.cores as usize;
     let sets = table.sets;
     let row = table.timing;
-    let costs = board::all_costs(cores, &sets, row);
+    let costs = board::all_costs(table.fourth, cores, &sets, row);
     Priced {
         tasks: table.tasks as usize,
         cores,

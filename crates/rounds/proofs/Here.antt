@@ -6,8 +6,8 @@ use native.Mathlib.Omega.{arith}
 use lib.ListN.{getD}
 use Rattle.laws.specs.Idioms.{entry}
 use Rattle.laws.proofs.Places.{getD-within}
-use Rattle.board.specs.declared.CoreCosts.{CoreCosts}
-use Rattle.board.specs.Costs.{noCosts}
+use Rattle.prices.specs.declared.CoreCosts.{CoreCosts}
+use Rattle.prices.specs.Costs.{noCosts}
 use Rattle.terms.specs.Terms.{Terms, termsOf}
 use Rattle.climb.specs.Run.{Ready, climbed}
 use Rattle.rounds.specs.Lent.{Lent, ownWith, placeAt, termsAt, climbedAt, Judgeable}

@@ -11,8 +11,8 @@ use Rattle.rules.specs.declared.AllJudged.{AllJudged}
 use Rattle.rules.specs.Judgement.{misses}
 use Rattle.rules.specs.Chain.{isAccepted, first, _orElse_}
 use Rattle.rules.specs.Operations.{noAnswers}
-use Rattle.board.specs.declared.CoreCosts.{CoreCosts}
-use Rattle.board.specs.Costs.{noCosts}
+use Rattle.prices.specs.declared.CoreCosts.{CoreCosts}
+use Rattle.prices.specs.Costs.{noCosts}
 use Rattle.groups.specs.Grouped.{placesOn}
 use Rattle.terms.specs.declared.Own.{Own}
 use Rattle.climb.specs.declared.Climbed.{Climbed}

@@ -7,7 +7,7 @@ ghost use Rattle.rules.specs.Judgement.{misses};
 ghost use Rattle.rules.specs.Chain.{isAccepted};
 ghost use Rattle.rules.specs.Operations.{noAnswers};
 ghost use Rattle.rounds.specs.Lent.{Lent, ownWith, lentOf, Judgeable, firstAfter, judgedLent, noneJudged};
-use board::CoreCosts;
+use prices::CoreCosts;
 use rules::AllJudged;
 use rules::Answer;
 use rules::Refusal;

@@ -66,7 +66,7 @@ fn priced(file: &[u8]) -> Priced
 {
     let cores = places::size(file[0]);
     let sets = fields::sets_in(file);
-    let costs = board::all_costs(cores, &sets, fields::row_in(file));
+    let costs = board::all_costs(file[3], cores, &sets, fields::row_in(file));
     Priced {
         tasks: places::size(file[2]),
         cores,

@@ -1,64 +1,39 @@
--- `all_costs` fills a place a core with its costs. Assumes nothing.
-use mathlib.Core.Path.{_≡_, refl, sym, ap, _∙_}
-use mathlib.Core.Bool.{Bool, true}
-use mathlib.Core.List.{List, map}
-use Prim.Native.Nat.{ℕ, _+_, _-_, _≤_, _<_}
-use lib.ListN.{getD}
+-- The costs of either kind are the table's. Assumes nothing.
+use mathlib.Core.Path.{_≡_, sym, ap, fun-ext, _∙_}
+use mathlib.Core.Bool.{true, false}
+use Prim.Native.Nat.{ℕ}
 use borrow.Author.Needs.{needs}
-use native.Mathlib.Omega.{arith}
 use Rattle.rules.specs.declared.Table.{Table}
-use Rattle.delays.specs.Figures.{figuresOf}
-use Rattle.board.specs.Costs.{costsOf, noCosts, allCosts}
-use Rattle.laws.specs.Idioms.{from, upTo, filled}
-use Rattle.laws.proofs.Places.{place-next, place-of}
-use Rattle.sides.specs.Masks.{mask, onSide, sideMasks}
-use Rattle.board.proofs.Bounds.{small}
+use Rattle.rules.specs.Kinds.{isBus, saysBus}
+use Rattle.facts.specs.Prices.{Prices, dramPrices, busPrices, pricesOf}
+use Rattle.prices.specs.Costs.{eachCosts, costsOf, allCosts}
 use Rattle.board.proofs.all_costs.Statement.{statement}
 use Rattle.board.proofs.all_costs.Tie as tie
 
-abbrev Inv-loop : tie.InvT-loop
-Inv-loop cores sets figures near far all₀ p₀ all p =
-    (p ≤ cores) × ((t : Table) → t .cores ≡ cores → t .sets ≡ sets → figures ≡ figuresOf (t .timing) → all ≡ filled 8 noCosts (map (costsOf t) (upTo p)))
+-- the same prices for each core, the same costs
+same-prices : (t : Table) (prices : ℕ → Prices) → ((p : ℕ) → prices p ≡ pricesOf t p) → eachCosts (t .cores) prices ≡ allCosts t
+unfolding allCosts costsOf
+same-prices t prices same = ap (eachCosts (t .cores)) (fun-ext same)
 
-abbrev μ-loop : tie.MeasureT-loop
-μ-loop cores sets figures near far all₀ p₀ all p = cores - p
+module _ (t : Table) where
+  of-bus : isBus t ≡ true → eachCosts (t .cores) (busPrices t) ≡ allCosts t
+  unfolding pricesOf
+  of-bus e = same-prices t (busPrices t) (λ p. rw e)
 
-loop-holds : tie.Need-loop-holds Inv-loop μ-loop
-unfolding from
-loop-holds c = (search needs, λ t e s f. refl)
+  of-dram : isBus t ≡ false → eachCosts (t .cores) (dramPrices t) ≡ allCosts t
+  unfolding pricesOf
+  of-dram e = same-prices t (dramPrices t) (λ p. rw e)
 
--- the mask of one core
-side-at : (near : Bool) (cores : ℕ) (sets : List ℕ) (p : ℕ) → p < cores → getD (sideMasks near cores sets) p 0 ≡ mask (onSide near sets (p + 1)) cores
-unfolding sideMasks
-side-at near cores sets p h =
-    let less : p + 1 - 1 ≡ p = omega arith in
-    rw less at (place-of 0 (λ p. mask (onSide near sets p) cores) 8 cores (p + 1) (omega arith) (omega arith))
+returns : tie.Need-returns
+returns c t fourth cores sets row =
+    c .all-costs .ensures t cores row ∙ of-bus t (ap saysBus fourth ∙ sym (c .before .before .says-bus .ensures) ∙ c .before .if1 .taken)
 
-costs-requires : tie.Need-costs-requires Inv-loop μ-loop
-costs-requires c κs =
-    let f = c .before .before .before .before .before .before in
-    (search needs, small (f .before .pre .1) (f .figures-of .ensures))
+all-costs-requires-2 : tie.Need-all-costs-requires-2
+all-costs-requires-2 c κs = let start = c .before .before in (start .pre .0, start .pre .1 (sym (c .before .says-bus .ensures) ∙ c .if1 .left))
 
-loop-again : tie.Need-loop-again Inv-loop μ-loop
-loop-again c =
-    let l = c .before .before .before in
-    let both = l .before .all-sides .ensures in
-    let a = l .before .before .before .before .before .args in (
-      search needs,
-      λ t e s f.
-          rw (l .loop .inv .1 t e s f, c .costs .ensures t e (record { near-is = rw (e, s, both .0) (side-at true (a .cores) (a .sets .now) (l .loop .p) (omega arith)); far-are = rw (e, s) (both .1); figures-are = f }))
-          (place-next noCosts (costsOf t) 8 (l .loop .p) (omega (arith, l .before .before .before .before .before .pre .0))),
-    )
-
-returns : tie.Need-returns Inv-loop μ-loop
-unfolding allCosts
-returns c t e s row =
-    let f = c .before .before .before .before .before in
-    let all : c .before .loop .p ≡ t .cores = omega arith in
-    rw (c .before .loop .inv .1 t e s (f .figures-of .ensures ∙ ap figuresOf (sym row)), all)
+returns-2 : tie.Need-returns-2
+returns-2 c t fourth cores sets row =
+    c .all-costs2 .ensures t cores sets row ∙ of-dram t (ap saysBus fourth ∙ sym (c .before .before .says-bus .ensures) ∙ c .before .if1 .left)
 
 pub all-costs-spec : {M : Type 1} → statement M
-all-costs-spec =
-    tie.close
-    (tie.spec Inv-loop μ-loop (λ c κs. search needs) (λ c κs. (c .before .before .before .pre .0, (refl, refl))) loop-holds (λ c. search needs) (λ c. search needs) costs-requires
-    (λ c. search needs) (λ c. search needs) (λ c. search needs) (λ c. search needs) loop-again returns)
+all-costs-spec = tie.close (tie.spec (λ c κs. search needs) (λ c κs. search needs) returns all-costs-requires-2 returns-2)

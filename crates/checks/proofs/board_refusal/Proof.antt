@@ -13,7 +13,7 @@ returns-2 : tie.Need-returns-2
 returns-2 c =
     let timing = c .before .before in
     let counts = timing .before in
-    stops _ _ (timing .check .ensures) (c .if2 .taken) ∙ counts-pass _ _ _ _ _ _ (sym (counts .before .counts-fault .ensures) ∙ counts .if1 .left)
+    stops _ _ (timing .check-row .ensures) (c .if2 .taken) ∙ counts-pass _ _ _ _ _ _ (sym (counts .before .counts-fault .ensures) ∙ counts .if1 .left)
 
 check-sets-requires : tie.Need-check-sets-requires
 check-sets-requires c κs =
@@ -24,7 +24,7 @@ returns-3 : tie.Need-returns-3
 returns-3 c =
     let timing = c .before .before .before in
     let counts = timing .before in
-    goes-on _ _ (timing .check .ensures) (c .before .if2 .left) (c .check-sets .ensures)
+    goes-on _ _ (timing .check-row .ensures) (c .before .if2 .left) (c .check-sets .ensures)
     ∙ counts-pass _ _ _ _ _ _ (sym (counts .before .counts-fault .ensures) ∙ counts .if1 .left)
 
 pub board-refusal-spec : {M : Type 1} → statement M

@@ -1,10 +1,12 @@
--- A count is outside its limits, or the fourth byte isn't 0. Assumes nothing.
+-- A count is outside its limits, or the fourth byte has a bit that no table has. Assumes nothing.
 use mathlib.Core.Path.{_≡_, sym, _∙_}
 use mathlib.Core.Bool.{true}
 use borrow.Author.Needs.{needs}
-use borrow.Author.Tests.{eq-eqb, ne-eqb, not-true, not-false}
+use native.Mathlib.Omega.{arith}
+use borrow.Author.Tests.{le-ltb, lt-ltb, not-true, not-false}
 use Rattle.laws.specs.Idioms.{within}
-use Rattle.rules.specs.Refusals.{countsFault, fourthAllowed}
+use Rattle.rules.specs.Kinds.{fourthAllowed}
+use Rattle.rules.specs.Refusals.{countsFault}
 use Rattle.checks.proofs.counts_fault.Statement.{statement}
 use Rattle.checks.proofs.counts_fault.Tie as tie
 
@@ -37,11 +39,14 @@ returns-3 c =
 
 returns-4 : tie.Need-returns-4
 unfolding countsFault fourthAllowed
-returns-4 c = let two = c .before .before .before in simp (cores-in (two .before .before), partitions-in two, tasks-in (c .before), ne-eqb _ _ (c .if4 .taken))
+returns-4 c = let two = c .before .before .before in simp (cores-in (two .before .before), partitions-in two, tasks-in (c .before), le-ltb _ 2 (c .if4 .taken))
 
 returns-5 : tie.Need-returns-5
 unfolding countsFault fourthAllowed
-returns-5 c = let two = c .before .before .before in simp (cores-in (two .before .before), partitions-in two, tasks-in (c .before), eq-eqb _ _ (c .if4 .left))
+returns-5 c =
+    let two = c .before .before .before in
+    let one = two .before .before in
+    simp (cores-in one, partitions-in two, tasks-in (c .before), lt-ltb (one .before .before .args .fourth) 2 (omega (arith, c .if4 .left)))
 
 pub counts-fault-spec : {M : Type 1} → statement M
 counts-fault-spec =

@@ -1,3 +1,3 @@
 -- What the crate's contracts cite beside the rules.
---     Costs    what a request costs, by cores
+--     Costs    prices as numbers
 pub mod Costs

@@ -8,12 +8,12 @@ use Rattle.rules.specs.declared.Table.{Table}
 use Rattle.rules.specs.declared.Picos.{Picos}
 use Rattle.rules.specs.Units.{ps}
 use Rattle.rules.specs.Dram.{RD}
-use Rattle.facts.specs.Prices.{weight, pricesOf}
+use Rattle.facts.specs.Prices.{weight, dramPrices}
 use Rattle.laws.specs.Idioms.{sumOver, upTo, from, filled}
 use Rattle.laws.proofs.Sums.{sum-append, upTo-next}
 use Rattle.laws.proofs.Places.{place-next}
-use Rattle.board.specs.Costs.{costsOf}
-use Rattle.board.specs.declared.CoreCosts.{CoreCosts}
+use Rattle.prices.specs.Costs.{costsAt}
+use Rattle.prices.specs.declared.CoreCosts.{CoreCosts}
 
 pub record SoFar (t : Table) (p q sum : ℕ) (weights : List Picos) : Type 0 where
   pub sum-is : sum ≡ sumOver (upTo q) (weight t p)
@@ -34,6 +34,6 @@ module _ (t : Table) (p : ℕ) where
 
   pub so-far-all : {q request sum : ℕ} {weights : List Picos} → SoFar t p q sum weights → q ≡ t .cores
       → (sum ≡ sumOver (upTo (t .cores)) (weight t p) → request ≡ RD t p)
-      → _≡_ {A = CoreCosts} (record { request = ps request; weight = weights }) (costsOf t p)
-  unfolding costsOf pricesOf
+      → _≡_ {A = CoreCosts} (record { request = ps request; weight = weights }) (costsAt (t .cores) (dramPrices t p))
+  unfolding dramPrices
   so-far-all s e delay = rw (delay (rw e at (s .sum-is)), s .weights-are, e)

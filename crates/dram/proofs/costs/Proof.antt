@@ -5,9 +5,9 @@ use borrow.Author.Needs.{needs}
 use native.Mathlib.Omega.{arith}
 use Rattle.rules.specs.declared.Table.{Table}
 use Rattle.weights.specs.Shows.{Shows}
-use Rattle.board.proofs.Gathered.{SoFar, so-far-none, so-far-next, so-far-all}
-use Rattle.board.proofs.costs.Statement.{statement}
-use Rattle.board.proofs.costs.Tie as tie
+use Rattle.dram.proofs.Gathered.{SoFar, so-far-none, so-far-next, so-far-all}
+use Rattle.dram.proofs.costs.Statement.{statement}
+use Rattle.dram.proofs.costs.Tie as tie
 
 abbrev Inv-loop : tie.InvT-loop
 Inv-loop cores near far p f sum₀ weight₀ q₀ sum weight q =

@@ -1,0 +1,3 @@
+-- The laws that the functions' proofs cite.
+--     Wrong    a figure at fault, as code tests it
+pub mod Wrong
