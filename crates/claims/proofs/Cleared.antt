@@ -11,7 +11,7 @@ use Rattle.laws.specs.Idioms.{entry, filled}
 use Rattle.rules.specs.Tasks.{noTask, taskOf}
 use Rattle.rules.specs.Cores.{setOf}
 use Rattle.rules.specs.Chain.{_orElse_, given}
-use Rattle.rules.specs.Refusals.{countsFault, checkTiming, setFault, coreFault, timeFault, requestFault, boardRefusal, tasksRefusal, checkBoard, checkTasks, checkTable}
+use Rattle.rules.specs.Refusals.{countsFault, checkRow, setFault, coreFault, timeFault, requestFault, boardRefusal, tasksRefusal, checkBoard, checkTasks, checkTable}
 use Rattle.facts.proofs.Accepted.{sound}
 use Rattle.facts.proofs.First.{first-same}
 use Rattle.claims.specs.Files.{AcceptedTable, Shape, cleared}
@@ -35,7 +35,7 @@ module _ (t : Table) (shape : Shape t) (passed : AcceptedTable t) where
   board-same : checkBoard (cleared t) ≡ checkBoard t
   unfolding checkBoard boardRefusal cleared
   board-same =
-      ap (λ (r : Refusal). given 5 0 (countsFault (t .cores) (t .partitions) (t .tasks) (t .fourth)) orElse checkTiming (t .timing) orElse r)
+      ap (λ (r : Refusal). given 5 0 (countsFault (t .cores) (t .partitions) (t .tasks) (t .fourth)) orElse checkRow (t .fourth) (t .timing) orElse r)
       (first-same 8 (t .cores) (λ p low high. ap (setFault (t .partitions)) (set-kept p low high)))
 
   tasks-same : checkTasks (cleared t) ≡ checkTasks t

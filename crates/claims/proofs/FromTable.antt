@@ -66,7 +66,7 @@ module _ {t : Table} (shape : Shape t) (passed : AcceptedTable t) where
   unfolding header
   header-are =
       let facts = sound t passed in
-      let fourth = facts .fourth-zero in
+      let fourth = facts .fourth-low in
       more {b = t .cores} (omega (arith, facts .cores-in))
       (more {b = t .partitions} (omega (arith, facts .partitions-in))
       (more {b = t .tasks} (omega (arith, facts .tasks-in)) (more {b = t .fourth} (omega arith) none)))

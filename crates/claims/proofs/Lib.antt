@@ -14,6 +14,7 @@
 --     Refused    what a refused operation gives
 --     Point2     what a verdict says
 --     Point3     a newer table judged from the older one's bounds
+--     Sets       the sets of a bus table have no effect
 pub mod ByteSums
 pub mod Codes
 pub mod Places
@@ -28,3 +29,4 @@ pub mod Files
 pub mod Refused
 pub mod Point2
 pub mod Point3
+pub mod Sets

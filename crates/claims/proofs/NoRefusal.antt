@@ -1,13 +1,14 @@
 -- Where nothing is refused of a table, of a start or of two tables, the refusal has number 0 and place 0. Assumes nothing.
 use mathlib.Core.Path.{_≡_, _∙_}
-use mathlib.Core.Bool.{Bool, true}
+use mathlib.Core.Bool.{Bool, true, false, cond}
 use Prim.Native.Nat.{ℕ, suc}
 use Rattle.rules.specs.declared.Refusal.{Refusal}
 use Rattle.rules.specs.declared.Table.{Table}
 use Rattle.rules.specs.Cores.{setOf}
+use Rattle.rules.specs.Kinds.{isBus}
 use Rattle.rules.specs.Tasks.{taskOf}
 use Rattle.rules.specs.Chain.{accepted, isAccepted, _orElse_, given, first}
-use Rattle.rules.specs.Refusals.{countsFault, figureFault, relationFault, checkTiming, setFault, coreFault, timeFault, requestFault, boardRefusal, tasksRefusal, checkBoard, checkTasks, checkTable, askedFault, lateStart, highStart, checkJudged, checkStart, checkOne}
+use Rattle.rules.specs.Refusals.{countsFault, figureFault, relationFault, checkTiming, busFault, checkBus, checkRow, setFault, coreFault, timeFault, requestFault, boardRefusal, tasksRefusal, checkBoard, checkTasks, checkTable, askedFault, lateStart, highStart, checkJudged, checkStart, checkOne}
 use Rattle.rules.specs.Operations.{checkBoth}
 use Rattle.facts.proofs.Chain.{both-accepted, second-decides, no-fault}
 use Rattle.facts.proofs.First.{none-first, first-none}
@@ -30,10 +31,22 @@ module _ (t : Table) where
   unfolding checkTiming
   timing-plain = both-plain _ _ (first-plain 5 (figureFault (t .timing)) 15) (first-plain 6 (relationFault (t .timing)) 5)
 
+  bus-plain : Plain (checkBus (t .timing))
+  unfolding checkBus
+  bus-plain = first-plain 15 (busFault (t .timing)) 15
+
+  row-plain : Plain (checkRow (t .fourth) (t .timing))
+  unfolding checkRow
+  row-plain = go (isBus t)
+    where
+      go : (b : Bool) → Plain (cond b (checkBus (t .timing)) (checkTiming (t .timing)))
+      go true = bus-plain
+      go false = timing-plain
+
   board-plain : Plain (checkBoard t)
   unfolding checkBoard boardRefusal
   board-plain =
-      both-plain _ _ (both-plain _ _ (given-plain 4 0 (countsFault (t .cores) (t .partitions) (t .tasks) (t .fourth))) timing-plain)
+      both-plain _ _ (both-plain _ _ (given-plain 4 0 (countsFault (t .cores) (t .partitions) (t .tasks) (t .fourth))) row-plain)
       (first-plain 7 (λ p. setFault (t .partitions) (setOf t p)) (t .cores))
 
   tasks-plain : Plain (checkTasks t)

@@ -1,29 +1,17 @@
 -- Every figure of an accepted table fits its field of the file. Assumes nothing.
 use mathlib.Core.Path.{_≡_}
 use mathlib.Core.Bool.{true}
-use mathlib.Core.List.{List, [], _∷_}
-use Prim.Native.Nat.{ℕ, zero, suc, _-_, _^_, _≤_, _<_, max}
+use Prim.Native.Nat.{ℕ, suc, _-_, _^_, _≤_, _<_}
 use native.Mathlib.Nat.{pow-le-pow-right}
 use native.Mathlib.Omega.{arith}
 use lib.Dec.{lit<}
 use lib.ListN.{getD}
 use Rattle.rules.specs.declared.Table.{Table}
-use Rattle.rules.specs.Timing.{ranges}
 use Rattle.rules.specs.Tasks.{noTask}
 use Rattle.rules.specs.Chain.{isAccepted}
 use Rattle.rules.specs.Refusals.{checkTable}
-use Rattle.facts.proofs.Accepted.{figure, timing-passed, sound}
+use Rattle.facts.proofs.Accepted.{sound}
 use Rattle.claims.proofs.Codes.{Fits}
-
--- no highest value of the ranges is above the largest of them
-abbrev top : List (ℕ × ℕ) → ℕ
-top [] = 0
-top (r ∷ rs) = max (r .1) (top rs)
-
-under-top : (l : List (ℕ × ℕ)) (k : ℕ) → getD l k (0, 0) .1 ≤ top l
-under-top [] k = omega arith
-under-top (r ∷ rs) zero = omega arith
-under-top (r ∷ rs) (suc k) = omega (arith, under-top rs k)
 
 -- places of a list are counted from 0, figures, cores and tasks from 1
 from-one : (k : ℕ) → suc k - 1 ≡ k
@@ -31,8 +19,7 @@ from-one k = omega arith
 
 module _ (t : Table) (passed : isAccepted (checkTable t) ≡ true) where
   pub figure-fits : (k : ℕ) → k < 15 → getD (t .timing) k 0 < 256 ^ 2
-  unfolding ranges
-  figure-fits k less = omega (arith, rw (from-one k) at (figure (t .timing) (timing-passed t passed) (suc k) (omega arith) (omega arith)), under-top ranges k)
+  figure-fits k less = omega (arith, rw (from-one k) at (sound t passed .figure-high (suc k) (omega arith) (omega arith)))
 
   pub set-fits : (k : ℕ) → k < t .cores → getD (t .sets) k 0 < 256 ^ 2
   set-fits k less =

@@ -4,7 +4,9 @@
 --     Refused  point 1: what a refused operation gives
 --     Point2   what a verdict says, of one task and of all, from any start; and that a start errs only to the safe side
 --     Point3   a newer table judged from the older one's bounds
+--     Sets     beside the points: the sets of a bus table have no effect
 pub mod Files
 pub mod Refused
 pub mod Point2
 pub mod Point3
+pub mod Sets

@@ -40,6 +40,7 @@ promises = record {
   front = λ input n. only-one _;
   ddr3-1333 = only-one _;
   check-timing = λ row. only-one _;
+  check-bus = λ row. only-one _;
   check-tasks = λ t. only-one _;
   board-refusal = λ cores partitions tasks fourth row sets. only-one _;
   check-board = λ t. only-one _;

@@ -16,7 +16,7 @@ use Rattle.rules.specs.declared.Rejudged.{Rejudged}
 use Rattle.rules.specs.Order as Order
 use Rattle.rules.specs.Timing as Timing
 use Rattle.rules.specs.Timing.{Row}
-use Rattle.rules.specs.Refusals.{checkTiming, boardRefusal, checkBoard, checkTasks, checkTable, checkJudged}
+use Rattle.rules.specs.Refusals.{checkTiming, checkBus, boardRefusal, checkBoard, checkTasks, checkTable, checkJudged}
 use Rattle.rules.specs.File.{checkWhole}
 use Rattle.rules.specs.Operations.{checkFile, reading, checkView, viewing, judgeOne, judgeAll}
 use Rattle.rules.specs.Listing.{refusedLine, tableText, listing}
@@ -48,9 +48,10 @@ pub record Promises : Type 0 where
   pub write : (t : Table) (out : List ℕ) → Exact (λ (r : Written × List ℕ). Wrote t out (r .0) (r .1))
   -- input
   pub front : (input : List ℕ) (n : ℕ) → Exact (λ (part : List ℕ). part ≡ take n input)
-  -- timing and tasks
+  -- timing, bus and tasks
   pub ddr3-1333 : Exact (λ (r : Row). r ≡ Timing.ddr3-1333)
   pub check-timing : (row : Row) → Exact (λ (r : Refusal). r ≡ checkTiming row)
+  pub check-bus : (row : Row) → Exact (λ (r : Refusal). r ≡ checkBus row)
   pub check-tasks : (t : Table) → Exact (λ (r : Refusal). r ≡ checkTasks t)
   -- checks
   pub board-refusal : (cores partitions tasks fourth : ℕ) (row : Row) (sets : List ℕ) → Exact (λ (r : Refusal). r ≡ boardRefusal cores partitions tasks fourth row sets)
