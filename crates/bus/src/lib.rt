@@ -1,40 +1,15 @@
-// A bus that serves the cores in turn: the check of its row, and what the cores cost each other. RULES 2.8, 4.8 and 4.9.
+// What the cores of a bus table cost each other: RULES 4.8 and 4.9 core by core, as prices.
 ghost use mathlib.Core.Path.{_≡_};
-ghost use Prim.Native.Nat.{_+_, _≤_};
+ghost use Prim.Native.Nat.{_≤_};
 ghost use Rattle.rules.specs.declared.Table.{Table};
 ghost use Rattle.rules.specs.Units.{ps};
 ghost use Rattle.rules.specs.Bus.{slotIn};
-ghost use Rattle.rules.specs.Refusals.{checkBus};
 ghost use Rattle.facts.specs.Prices.{ifOther, busPrices};
 ghost use Rattle.prices.specs.Costs.{costsAt, eachCosts};
-ghost use Rattle.bus.specs.Wrong.{wrongAt};
 use prices::CoreCosts;
 use rules::Picos;
-use rules::Refusal;
-use rules::refused;
 
-// Is x wrong as the figure at i, counted from 0? The first is s, the others have to be 0.
-fn is_wrong(i: usize, x: u16) -> bool
-    ensures { λ r. ⌜ r ≡ wrongAt i x ⌝ }
-{
-    if i == 0 { x == 0 } else { x != 0 }
-}
-
-// Refusal 16 (RULES 9.3), with the first figure at fault.
-pub fn check(row: [u16; 15]) -> Refusal
-    ensures { λ r. ⌜ r ≡ checkBus row ⌝ }
-{
-    let mut i: usize = 0;
-    while i < 15 {
-        if is_wrong(i, row[i]) {
-            return refused(16, (i + 1) as u8);
-        }
-        i += 1;
-    }
-    refused(0, 0)
-}
-
-// The time s. No clock is involved.
+// The time s (RULES 2.8). No clock is involved.
 fn slot(row: [u16; 15]) -> Picos
     ensures { λ r. ⌜ (r ≡ slotIn row) × (r .0 ≤ 65535) ⌝ }
 {

@@ -1,5 +1,4 @@
-// Checks 5 to 11 and 16 of a table, in their order: 5 to 8 of its board, of which 6 and 7 are in `timing` and 16, in their place, is in `bus`; then 9 to 11,
-// which are in `tasks`.
+// Checks 5 to 11 and 16 of a table, in their order: 5 to 8 of its board, of which 6 and 7, and 16 in their place, are in `timing`; then 9 to 11, which are in `tasks`.
 ghost use mathlib.Core.Path.{_≡_};
 ghost use Prim.Native.Nat.{_≤_};
 ghost use Rattle.laws.specs.Idioms.{entry};
@@ -47,7 +46,7 @@ fn check_row(fourth: u8, row: [u16; 15]) -> Refusal
     ensures { λ r. ⌜ r ≡ checkRow fourth row ⌝ }
 {
     if rules::says_bus(fourth) {
-        return bus::check(row);
+        return timing::check_bus(row);
     }
     timing::check(row)
 }

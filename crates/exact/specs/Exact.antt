@@ -48,7 +48,7 @@ pub record Promises : Type 0 where
   pub write : (t : Table) (out : List ℕ) → Exact (λ (r : Written × List ℕ). Wrote t out (r .0) (r .1))
   -- input
   pub front : (input : List ℕ) (n : ℕ) → Exact (λ (part : List ℕ). part ≡ take n input)
-  -- timing, bus and tasks
+  -- timing and tasks
   pub ddr3-1333 : Exact (λ (r : Row). r ≡ Timing.ddr3-1333)
   pub check-timing : (row : Row) → Exact (λ (r : Refusal). r ≡ checkTiming row)
   pub check-bus : (row : Row) → Exact (λ (r : Refusal). r ≡ checkBus row)

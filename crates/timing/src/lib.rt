@@ -1,10 +1,11 @@
-// A timing row: the supplied one, and checks 6 and 7, each figure in its range, then the relations between them.
+// A timing row: the supplied one; checks 6 and 7 of a DRAM's, each figure in its range, then the relations between them; check 16 of a bus's.
 ghost use mathlib.Core.Path.{_≡_};
 ghost use Prim.Native.Nat.{_%_, _≤_};
 ghost use Rattle.rules.specs.Timing.{ddr3-1333};
 ghost use Rattle.rules.specs.Chain.{first};
-ghost use Rattle.rules.specs.Refusals.{figureFault, relationFault, checkTiming};
+ghost use Rattle.rules.specs.Refusals.{figureFault, relationFault, checkTiming, checkBus};
 ghost use Rattle.timing.specs.Ranges.{notBurst, outOfRange, AreRanges};
+ghost use Rattle.timing.specs.Bus.{wrongAt};
 use cycles::figure;
 use rules::Refusal;
 use rules::refused;
@@ -130,7 +131,7 @@ fn check_relations(row: [u16; 15]) -> Refusal
     refused(0, 0)
 }
 
-// 6, then 7.
+// 6, then 7, of a DRAM's row.
 pub fn check(row: [u16; 15]) -> Refusal
     ensures { λ r. ⌜ r ≡ checkTiming row ⌝ }
 {
@@ -139,4 +140,25 @@ pub fn check(row: [u16; 15]) -> Refusal
         return ranges;
     }
     check_relations(row)
+}
+
+// Is x wrong as the figure at i, counted from 0, of a bus's row (RULES 2.8)? The first is s, the others have to be 0.
+fn is_wrong(i: usize, x: u16) -> bool
+    ensures { λ r. ⌜ r ≡ wrongAt i x ⌝ }
+{
+    if i == 0 { x == 0 } else { x != 0 }
+}
+
+// 16 (RULES 9.3) of a bus's row, with the first figure at fault.
+pub fn check_bus(row: [u16; 15]) -> Refusal
+    ensures { λ r. ⌜ r ≡ checkBus row ⌝ }
+{
+    let mut i: usize = 0;
+    while i < 15 {
+        if is_wrong(i, row[i]) {
+            return refused(16, (i + 1) as u8);
+        }
+        i += 1;
+    }
+    refused(0, 0)
 }

@@ -1,9 +1,9 @@
 -- The test of a figure, of the first and of another. Assumes nothing.
 use native.Mathlib.Omega.{arith}
 use borrow.Author.Tests.{eq-eqb, ne-eqb}
-use Rattle.bus.proofs.Wrong.{none-above}
-use Rattle.bus.proofs.is_wrong.Statement.{statement}
-use Rattle.bus.proofs.is_wrong.Tie as tie
+use Rattle.timing.proofs.Bus.{none-above}
+use Rattle.timing.proofs.is_wrong.Statement.{statement}
+use Rattle.timing.proofs.is_wrong.Tie as tie
 
 returns : tie.Need-returns
 returns c = rw (eq-eqb _ 0 (c .if1 .taken)) (none-above (c .before .args .x) (omega arith))
