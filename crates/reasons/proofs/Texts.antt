@@ -17,7 +17,7 @@ module _ (number : ℕ) {made : ℕ} {out after : List ℕ} where
   pub given-at : (k : ℕ) → number ≡ k → Given (reasonText k) out made after → Given (reasonText number) out made after
   given-at k e given = rw e given
 
-  pub given-other : 15 < number → (number ≡ 255 → ⊥) → Given (text "no refusal has this number") out made after → Given (reasonText number) out made after
+  pub given-other : 16 < number → (number ≡ 255 → ⊥) → Given (text "no refusal has this number") out made after → Given (reasonText number) out made after
   unfolding reasonText numberedTexts
   given-other high other given = rw (ne-eqb number 255 other, List·getD-eq-default numberedTexts _ {n = number} (omega arith)) given
 

@@ -6,7 +6,7 @@ use lib.Dec.{eqb}
 use lib.ListN.{getD}
 use Rattle.laws.specs.Idioms.{text}
 
--- the numbers of RULES 9.3 from 0, which refuses nothing, to 15
+-- the numbers of RULES 9.3 from 0, which refuses nothing, to 16
 unfoldable pub numberedTexts : List (List ℕ)
 numberedTexts =
     text "nothing is refused"
@@ -14,7 +14,7 @@ numberedTexts =
     ∷ text "the file's length is not what its counts say"
     ∷ text "the file's trailer gives another length"
     ∷ text "a sum is wrong: the file's bytes were altered"
-    ∷ text "a count is outside its limits, or the fourth byte is not 0"
+    ∷ text "a count is outside its limits, or the fourth byte has unknown bits"
     ∷ text "a timing figure is outside its range"
     ∷ text "the timing figures contradict each other"
     ∷ text "a core's set of partitions is empty or names one that is not there"
@@ -25,6 +25,7 @@ numberedTexts =
     ∷ text "a given start is above its task's deadline"
     ∷ text "a given start is above what the equation gives there"
     ∷ text "the output is shorter than the file"
+    ∷ text "a bus table's s is 0, or another of its timing figures is not 0"
     ∷ []
 
 -- 255 is the C interface's own; no other number refuses

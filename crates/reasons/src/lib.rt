@@ -30,7 +30,7 @@ fn board_reason(number: u8, out: &mut [u8]) -> usize
 {
     match number {
         5 => give(
-            b"a count is outside its limits, or the fourth byte is not 0",
+            b"a count is outside its limits, or the fourth byte has unknown bits",
             out,
         ),
         6 => give(b"a timing figure is outside its range", out),
@@ -70,12 +70,16 @@ fn asked_reason(number: u8, out: &mut [u8]) -> usize
     }
 }
 
-// Above 15: 255, which only C has, and numbers that no refusal has.
+// Above 15: a bus table's figures; 255, which only C has; and numbers that no refusal has.
 fn other_reason(number: u8, out: &mut [u8]) -> usize
     requires { ⌜ 15 < number ⌝ }
     ensures { λ r. ⌜ Given (reasonText number) (now (out .entry)) r (now (out .exit)) ⌝ }
 {
     match number {
+        16 => give(
+            b"a bus table's s is 0, or another of its timing figures is not 0",
+            out,
+        ),
         255 => give(b"an output is shorter than the tasks", out),
         _ => give(b"no refusal has this number", out),
     }
