@@ -42,19 +42,19 @@ fn note_spared(spent: u64, fresh: u64) {
     note(b" fresh\n");
 }
 
-// Whose figure differs, as `console::note_place` counts kinds: a timing figure, a core's, a task's.
-fn kind(what: u8) -> u8 {
+// Whose figure differs, as `console::note_place` has the kinds: a bus table's timing figure or a DRAM table's, a core's, a task's.
+fn kind(what: u8, bus: bool) -> u8 {
     match what {
-        5 => 1,
+        5 => if bus { 5 } else { 1 },
         6 => 3,
         _ => 4,
     }
 }
 
 // `task 5's execution time`, by the difference's number from 1. A timing figure is named with its place.
-fn note_what(what: u8, place: u8) {
+fn note_what(what: u8, place: u8, bus: bool) {
     if what > 4 {
-        console::note_place(kind(what), place);
+        console::note_place(kind(what, bus), place);
     }
     note(part(
         b"the number of cores|the number of partitions|the number of tasks|the fourth byte||'s set|'s core|'s deadline|\
@@ -73,9 +73,9 @@ fn rule(what: u8) -> u8 {
 }
 
 // `carry: judged fresh: task 5's execution time was 330000000, is 300000000: it may only rise`
-fn note_difference(d: Change) {
+fn note_difference(d: Change, bus: bool) {
     note(b"carry: judged fresh: ");
-    note_what(d.what, d.place);
+    note_what(d.what, d.place, bus);
     note_number(b" was ", d.was);
     note_number(b", is ", d.is);
     note(part(
@@ -110,7 +110,8 @@ fn judge_again(older: Table, newer: Table) -> bool {
     if again.carried {
         note_spared(rounds(answers), fresh_rounds(newer));
     } else {
-        note_difference(order::difference(older, newer));
+        // where their timing figures differ, both tables are of one kind
+        note_difference(order::difference(older, newer), newer.fourth % 2 == 1);
     }
     true
 }

@@ -33,29 +33,42 @@ pub fn part(s: &[u8], mark: u8, k: u8) -> &[u8] {
 fn note_name(kind: u8, k: u8) {
     let names = part(
         b" (tCK)| (tRP)| (tRCD)| (CL)| (WL)| (BL)| (tWTR)| (tWR)| (tRRD)| (tFAW)| (tRAS)| (tRTP)| (tRTRS)| (Ncols)| (Ncap); \
-        (tWR >= tWTR)| (WL + BL/2 + tWTR >= CL)| (tRTP < CL + BL/2 + 2)| (tRCD + hit > tRAS)| (Ncols a multiple of BL);",
+        (tWR >= tWTR)| (WL + BL/2 + tWTR >= CL)| (tRTP < CL + BL/2 + 2)| (tRCD + hit > tRAS)| (Ncols a multiple of BL);;; (s)|",
         b';',
         kind,
     );
     note(part(names, b'|', k));
 }
 
-// `timing figure 4 (CL)`, `relation 2 (WL + BL/2 + tWTR >= CL)`, `core 3` or `task 3`, by kind from 1.
+// `timing figure 4 (CL)`, `relation 2 (WL + BL/2 + tWTR >= CL)`, `core 3`, `task 3`, or of a bus table `timing figure 1 (s)`, by kind from 1.
 pub fn note_place(kind: u8, k: u8) {
     note_number(
-        part(b"timing figure |relation |core |task ", b'|', kind),
+        part(
+            b"timing figure |relation |core |task |timing figure ",
+            b'|',
+            kind,
+        ),
         k as u64,
     );
     note_name(kind, k);
 }
 
+// What the place of a refusal counts, as `note_place` has the kinds.
+fn kind(number: u8) -> u8 {
+    match number {
+        6..=8 => number - 5,
+        16 => 5,
+        _ => 4,
+    }
+}
+
 // ` at task 3`; nothing where a refusal has no place.
 fn note_at(number: u8, place: u8) {
-    if number < 6 || place == 0 {
+    if place == 0 {
         return;
     }
     note(b" at ");
-    note_place(number - 5, place);
+    note_place(kind(number), place);
 }
 
 fn note_file(i: usize) {
