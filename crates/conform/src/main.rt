@@ -3,6 +3,7 @@ mod lines;
 mod raw;
 
 use console::Got;
+use console::part;
 use line::front;
 use line::labelled;
 use line::word;
@@ -15,6 +16,7 @@ use rules::AllJudged;
 use rules::Judged;
 use rules::Picos;
 use rules::Refusal;
+use rules::Rejudged;
 use rules::Table;
 use rules::Written;
 ghost use Prim.Native.Nat.{_≤_};
@@ -109,16 +111,17 @@ fn judge_one(payload: &[u8], out: &mut [u8]) -> usize {
     put_one(out, judge::judge_one(raw::table(&all, 9), all[0], start))
 }
 
-fn put_outcome(out: &mut [u8], refusal: Refusal) -> usize {
+// The refusal, or else a word.
+fn put_outcome(out: &mut [u8], refusal: Refusal, judged: &[u8]) -> usize {
     if refusal.number != 0 {
         return refused(out, refusal);
     }
-    word(out, 0, b"all")
+    word(out, 0, judged)
 }
 
 fn put_all(out: &mut [u8], judged: AllJudged) -> usize {
     let refusal = judged.refusal;
-    let end = put_outcome(out, refusal);
+    let end = put_outcome(out, refusal, b"all");
     let answers = judged.answers;
     put_fields(out, end, answers)
 }
@@ -128,6 +131,27 @@ fn judge_all(payload: &[u8], out: &mut [u8]) -> usize {
     let all = raw::padded(payload);
     let table = raw::table(&all, 256);
     put_all(out, judge::judge_all(table, raw::starts(&all)))
+}
+
+fn put_again(out: &mut [u8], again: Rejudged) -> usize {
+    let refusal = again.refusal;
+    let how = if again.carried { 1 } else { 2 };
+    let end = put_outcome(out, refusal, part(b"carried|fresh", b'|', how));
+    let answers = again.answers;
+    put_fields(out, end, answers)
+}
+
+// A raw table at a place of a payload.
+fn table_from(payload: &[u8], at: usize) -> Table {
+    let all = raw::padded(raw::from(payload, at));
+    raw::table(&all, 0)
+}
+
+// K: a newer table after an older one.
+fn judge_again(payload: &[u8], out: &mut [u8]) -> usize {
+    let older = table_from(payload, 0);
+    let newer = table_from(payload, 1242);
+    put_again(out, rejudge::judge_carried(older, newer))
 }
 
 // T: a table passed directly, judged and listed.
@@ -147,6 +171,7 @@ fn one_line(letter: u8, payload: &[u8], out: &mut [u8]) -> usize {
         b'W' => write(payload, out),
         b'J' => judge_one(payload, out),
         b'A' => judge_all(payload, out),
+        b'K' => judge_again(payload, out),
         _ => word(out, 0, b"unknown"),
     }
 }

@@ -65,7 +65,7 @@ fn tasks(s: &[u8], at: usize) -> [Task; 32]
     all
 }
 
-// The fourth header byte, tRFC and tREFI are not looked at yet.
+// tRFC and tREFI are not looked at yet.
 pub fn table(s: &[u8], at: usize) -> Table
     requires { ⌜ at + 1242 ≤ length (now s) ⌝ }
 {
@@ -78,7 +78,7 @@ pub fn table(s: &[u8], at: usize) -> Table
         cores: s[at],
         partitions: s[at + 1],
         tasks: s[at + 2],
-        fourth: 0,
+        fourth: s[at + 3],
         timing: timing,
         sets: sets,
         task: task,
