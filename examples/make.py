@@ -52,6 +52,16 @@ def timing_row(timing):
     return entries("timing", timing, FIGURES, ["like"])
 
 
+def figures(description):
+    """The fifteen timing figures as bytes, s and fourteen times 0 for a bus table, and the fourth byte that says of which kind the table is."""
+    if ("timing" in description) == ("bus" in description):
+        raise Wrong("the description " + ("has both timing and bus" if "bus" in description else "lacks timing, or bus in its place"))
+    if "bus" in description:
+        return number("bus", description["bus"], 2) + bytes(28), 1
+    row = timing_row(description["timing"])
+    return b"".join(number(name, row[name], 2) for name in FIGURES), 0
+
+
 def mask(what, partitions):
     """2 bytes: bit b stands for partition b + 1."""
     bits = 0
@@ -70,13 +80,12 @@ def sealed(body):
 
 
 def table_file(description):
-    entries("the description", description, ["partitions", "timing", "sets", "tasks"], ["about", "fourth"])
-    row = timing_row(description["timing"])
+    entries("the description", description, ["partitions", "sets", "tasks"], ["timing", "bus", "about", "fourth"])
+    timing, kind = figures(description)
     sets, tasks = listed("sets", description["sets"]), listed("tasks", description["tasks"])
     body = number("the number of cores", len(sets), 1) + number("partitions", description["partitions"], 1)
-    body += number("the number of tasks", len(tasks), 1) + number("fourth", description.get("fourth", 0), 1)
-    body += b"".join(number(name, row[name], 2) for name in FIGURES)
-    body += b"".join(mask(f"core {q}'s set", partitions) for q, partitions in enumerate(sets, 1))
+    body += number("the number of tasks", len(tasks), 1) + number("fourth", description.get("fourth", kind), 1)
+    body += timing + b"".join(mask(f"core {q}'s set", partitions) for q, partitions in enumerate(sets, 1))
     for k, task in enumerate(tasks, 1):
         entries(f"task {k}", task, TASK, ["name"])
         body += b"".join(number(f"task {k}'s {name}", task[name], size) for name, size in TASK.items())

@@ -1,16 +1,16 @@
 /*
- * Response-time bounds under memory interference: reads a table file of tasks, cores, bank partitions and DRAM timing, and
- * says for each task whether it meets its deadline. docs/RULES.md has the rules: what a figure means, how a bound is found (F, C, T,
- * D and H below are its letters), the file byte by byte, and each refusal.
+ * Response-time bounds under memory interference: reads a table file of tasks, cores, bank partitions and the timing of a DRAM
+ * or of a bus, and says for each task whether it meets its deadline. docs/RULES.md has the rules: what a figure means, how a bound
+ * is found (F, C, T, D and H below are its letters), the file byte by byte, and each refusal.
  *
  * No function keeps state, allocates memory or calls the system; each returns for every input. A buffer is a pointer and a
  * count of its elements, not of bytes; where the count is 0 the pointer isn't followed and may be NULL. A buffer that is
  * written to must not overlap another buffer of the same call. Nothing outside the buffers is read or written.
  *
  * A function that returns a refusal returns its number plus 256 times its place, and 0 where nothing is refused. The place
- * counts from 1: the timing figure at fault for 6, the relation for 7, the core for 8, the task for 9, 10, 11, 13 and 14; it is
- * 0 for the others. Where several refusals apply the lowest number is given, with its first place. What is refused changes no
- * buffer.
+ * counts from 1: the timing figure at fault for 6 and 16, the relation for 7, the core for 8, the task for 9, 10, 11, 13 and 14;
+ * it is 0 for the others. Where several refusals apply the first in the list below is given, with its first place: that is the
+ * lowest number, but that 16 stands in the place of 6 and 7. What is refused changes no buffer.
  */
 #ifndef RYEOBADUM_H
 #define RYEOBADUM_H
@@ -27,15 +27,16 @@ extern "C" {
 #define RYB_PLACE(refusal) ((refusal) / 256 % 256)
 #define RYB_TABLE(refusal) ((refusal) / 65536)
 
-/* The numbers. 15 is of writing, which isn't here. */
+/* The numbers, in the order in which they are looked for. 15 is of writing, which isn't here. */
 enum {
     RYB_SHORT_FILE = 1,    /* the file has under 46 bytes */
     RYB_BAD_LENGTH = 2,    /* the length isn't 46 + 2 * cores + 29 * tasks by the header's counts */
     RYB_BAD_TRAILER = 3,   /* the trailer's first number isn't the length less 12 */
     RYB_BAD_SUM = 4,       /* either sum of the trailer is wrong */
-    RYB_BAD_COUNT = 5,     /* a count is outside its limits (cores 1..8, partitions 1..16, tasks 1..32), or byte four isn't 0 */
-    RYB_BAD_FIGURE = 6,    /* a timing figure is outside its range */
-    RYB_BAD_RELATION = 7,  /* a relation between timing figures is broken */
+    RYB_BAD_COUNT = 5,     /* a count is outside its limits (cores 1..8, partitions 1..16, tasks 1..32), or byte four isn't 0 or 1 */
+    RYB_BAD_FIGURE = 6,    /* in a DRAM table a timing figure is outside its range */
+    RYB_BAD_RELATION = 7,  /* in a DRAM table a relation between timing figures is broken */
+    RYB_BAD_BUS = 16,      /* in a bus table (byte four is 1) the first timing figure is 0, or another isn't */
     RYB_BAD_SET = 8,       /* a core's set is empty or names a partition above the count */
     RYB_BAD_CORE = 9,      /* a task's core isn't 1..cores */
     RYB_BAD_TIME = 10,     /* a task's T, D or C is outside its limits (10^8 <= T <= 10^12, 1 <= D <= T, 1 <= C <= D) */
@@ -73,7 +74,7 @@ enum {
 /*
  * Reads the table file in file[0..n).
  *
- * Returns 0 where the file is accepted, else the refusal (1 to 11). Writes nothing.
+ * Returns 0 where the file is accepted, else the refusal (1 to 11 or 16). Writes nothing.
  */
 uint16_t ryb_read(const uint8_t *file, size_t n);
 
@@ -100,7 +101,7 @@ size_t ryb_tasks(const uint8_t *file, size_t n);
  *   by[k]      is RYB_MISSES, RYB_HOLDS_BY_REQUEST or RYB_HOLDS_BY_JOB.
  * Places beyond the tasks keep what they held.
  *
- * Returns the refusal (1 to 11, 13 or 14) where the file or a start is refused. Returns RYB_SHORT_OUTPUT where all of that is
+ * Returns the refusal (1 to 11, 13, 14 or 16) where the file or a start is refused. Returns RYB_SHORT_OUTPUT where all of that is
  * accepted and bounds, rounds or by has fewer places than the file has tasks; RYB_MAX_TASKS places are always enough. In either
  * case no output is changed.
  */
@@ -122,7 +123,7 @@ size_t ryb_list(const uint8_t *file, size_t n, uint8_t *out, size_t out_n);
 /*
  * Asks whether the table file in file[0..n) has a record of a task (counted from 1).
  *
- * Returns 0 where it has, else the refusal: of the file (1 to 11), or RYB_NO_TASK. Writes nothing.
+ * Returns 0 where it has, else the refusal: of the file (1 to 11 or 16), or RYB_NO_TASK. Writes nothing.
  */
 uint16_t ryb_view(const uint8_t *file, size_t n, uint8_t task);
 
@@ -142,9 +143,9 @@ size_t ryb_record(const uint8_t *file, size_t n, uint8_t task);
  * Returns 0 where all tasks are judged. Then bounds, rounds and by say of the newer file's tasks what they say after ryb_judge,
  * and places beyond the tasks keep what they held.
  *
- * Returns else the refusal plus 65536 times the file that it is about. The older file's come first (1 to 11, with RYB_OLDER),
- * then the newer's (1 to 11, with RYB_NEWER), then RYB_SHORT_OUTPUT, with neither, where bounds, rounds or by has fewer places
- * than the newer file has tasks. In each case no output is changed.
+ * Returns else the refusal plus 65536 times the file that it is about. The older file's come first (1 to 11 or 16, with
+ * RYB_OLDER), then the newer's (the same, with RYB_NEWER), then RYB_SHORT_OUTPUT, with neither, where bounds, rounds or by has
+ * fewer places than the newer file has tasks. In each case no output is changed.
  */
 uint32_t ryb_carry(const uint8_t *older, size_t older_n,
                    const uint8_t *newer, size_t newer_n,
