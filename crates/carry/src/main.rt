@@ -111,7 +111,10 @@ fn judge_again(older: Table, newer: Table) -> bool {
         note_spared(rounds(answers), fresh_rounds(newer));
     } else {
         // where their timing figures differ, both tables are of one kind
-        note_difference(order::difference(older, newer), newer.fourth % 2 == 1);
+        note_difference(
+            order::difference(older, newer),
+            rules::says_bus(newer.fourth),
+        );
     }
     true
 }

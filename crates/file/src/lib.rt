@@ -13,7 +13,7 @@ use rules::Table;
 
 // ---- the refusals, from the bytes: no table is made
 
-// 5 to 8.
+// 5 to 8 and 16.
 fn board_in(file: &[u8]) -> Refusal
     requires { ⌜ coresIn (now file) ≤ 8 ⌝ }
     requires { ⌜ Sized (now file) ⌝ }
@@ -47,7 +47,7 @@ fn records_in(file: &[u8]) -> Refusal
     tasks::told(seen)
 }
 
-// 1 to 11. Sets that have no room in a table are refused by their count before they are looked at.
+// 1 to 11 and 16. Sets that have no room in a table are refused by their count before they are looked at.
 pub fn check(file: &[u8]) -> Refusal
     ensures { λ r. ⌜ r ≡ checkFile (now (file .entry)) ⌝ }
 {
@@ -86,7 +86,7 @@ fn read_nothing(refusal: Refusal) -> Read
     }
 }
 
-// Reading: 1 to 4, then 5 to 11; then the table.
+// Reading: 1 to 4, then 5 to 11 and 16; then the table.
 pub fn read(file: &[u8]) -> Read
     ensures { λ r. ⌜ r ≡ reading (now (file .entry)) ⌝ }
 {

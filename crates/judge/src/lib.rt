@@ -80,7 +80,7 @@ fn numbers(starts: [Picos; 32]) -> [u64; 32]
     column
 }
 
-// RULES 6.3, of all tasks: refusals 5 to 11, 13 and 14, or the answers.
+// RULES 6.3, of all tasks: refusals 5 to 11, 16, 13 and 14, or the answers.
 pub fn judge_all(table: Table, starts: [Picos; 32]) -> AllJudged
     ensures { λ r. ⌜ r ≡ judgeAll table (inPicos starts) ⌝ }
 {

@@ -3,7 +3,7 @@ ghost use mathlib.Core.Path.{_≡_};
 ghost use Rattle.judged.specs.JudgedFile.{checkJudgedFile, JudgedFile};
 use rules::Refusal;
 
-// 1 to 11, 13 and 14, then 255 where an output has fewer places than the file has tasks; or every task's answer. A refusal changes nothing.
+// 1 to 11, 16, 13 and 14, then 255 where an output has fewer places than the file has tasks; or every task's answer. A refusal changes nothing.
 pub fn judge_file(
     file: &[u8],
     starts: &[u64],

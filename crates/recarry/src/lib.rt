@@ -56,7 +56,7 @@ fn store_after(
     stored::store_answers(answers, n, bounds, rounds, by)
 }
 
-// The older file's 1 to 11, then the newer's, then 255 where an output has fewer places than the newer file has tasks; or every task's answer.
+// The older file's 1 to 11 and 16, then the newer's, then 255 where an output has fewer places than the newer file has tasks; or every task's answer.
 // A refusal changes nothing.
 pub fn carry_files(
     older: &[u8],

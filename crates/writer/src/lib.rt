@@ -17,7 +17,7 @@ fn wrote_nothing(refusal: Refusal) -> Written
     }
 }
 
-// Writing: 5 to 11, then 15. No byte is touched before all of them are passed.
+// Writing: 5 to 11 and 16, then 15. No byte is touched before all of them are passed.
 pub fn write(t: Table, out: &mut [u8]) -> Written
     ensures { λ r. ⌜ Wrote t (now (out .entry)) r (now (out .exit)) ⌝ }
 {
