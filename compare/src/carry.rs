@@ -6,6 +6,7 @@ use crate::table::{Table, Task, TASKS};
 /// RULES 6.4, of two accepted tables.
 pub fn worsens(older: &Table, newer: &Table) -> bool {
     older.partitions == newer.partitions
+        && older.fourth == newer.fourth
         && older.timing == newer.timing
         && older.sets() == newer.sets()
         && older.tasks().len() == newer.tasks().len()

@@ -1,12 +1,11 @@
 //! The cases: fixed ones at every limit, and random tables, whole and damaged.
 
+use compare_model::dram::{BL, DDR3_1333, RANGES};
 use compare_model::file::{self, file_length, LONGEST, LONGEST_BY_HEADER, SHORTEST, TRAILER};
 use compare_model::gen::{self, Draft, Rng};
 use compare_model::judge::{Answer, Judge};
 use compare_model::listing::listing;
-use compare_model::table::{
-    Table, Task, BL, CORES, DDR3_1333, FIGURES, PARTITIONS, RANGES, TASKS, T_HIGHEST, T_LOWEST,
-};
+use compare_model::table::{Table, Task, CORES, FIGURES, PARTITIONS, TASKS, T_HIGHEST, T_LOWEST};
 
 use crate::comparer::{Comparer, Difference, Reaches};
 use crate::pairs;

@@ -1,12 +1,14 @@
 //! The figures of RULES 11, and some of our own, as tests of the own reading.
 
 use crate::answers;
-use crate::delay::{Delays, Timing};
+use crate::carry;
+use crate::delay::Delays;
+use crate::dram::{Timing, DDR3_1333};
 use crate::file::{self, LONGEST, LONGEST_BY_HEADER, RECORD, SETS_AT};
 use crate::judge::{Answer, By, Judge, Verdict};
 use crate::listing::listing;
 use crate::refusal::Refusal;
-use crate::table::{Table, Task, DDR3_1333};
+use crate::table::{Table, Task, CORES, FIGURES};
 
 const NCAP: usize = 14;
 
@@ -36,6 +38,18 @@ fn listed() -> Table {
         task(1, 9_000_000_000, 20_000_000_000, 0),
     ];
     table(2, &[1, 2], &tasks)
+}
+
+/// The same on a bus whose s is this.
+fn on_bus(table: &Table, s: u16) -> Table {
+    let timing = [s, 0, 0, 0, 0, 0, 0, 0, 0, 0, 0, 0, 0, 0, 0];
+    Table { fourth: 1, timing, ..*table }
+}
+
+/// The three tasks that the bus is worked out on by hand, on cores 1 to 3. Each has C 10^6, T = D = 10^9; H is 10, 1000 and 20.
+fn bus_of_three(cores: usize) -> Table {
+    let tasks = [(1, 10), (2, 1000), (3, 20)].map(|(core, h)| task(core, 1_000_000, 1_000_000_000, h));
+    on_bus(&table(1, &vec![1; cores], &tasks), 1_000)
 }
 
 fn with_ncap(mut table: Table, ncap: u16) -> Table {
@@ -83,14 +97,27 @@ fn request_delays() {
     assert_eq!([1, 3].map(|core| request_delay(&three, core)), [681_000, 75_000]);
 }
 
+const LISTING: &str = "task core verdict bound by rounds\n\
+                       1 1 holds 1007500000 job 2\n\
+                       2 2 holds 2003750000 request 2\n\
+                       3 1 holds 11007500000 job 3\n\
+                       all hold\n";
+
 #[test]
 fn the_listing() {
-    let expected = "task core verdict bound by rounds\n\
-                    1 1 holds 1007500000 job 2\n\
-                    2 2 holds 2003750000 request 2\n\
-                    3 1 holds 11007500000 job 3\n\
-                    all hold\n";
-    assert_eq!(listing(&bytes(&listed())), expected);
+    assert_eq!(listing(&bytes(&listed())), LISTING);
+}
+
+/// RULES 11.10.
+#[test]
+fn the_same_on_a_bus() {
+    let mut table = on_bus(&listed(), 37_500);
+    assert_eq!(listing(&bytes(&table)), LISTING);
+    table.sets[1] = table.sets[0];
+    assert_eq!(listing(&bytes(&table)), LISTING);
+    let one = [task(1, 1, 100_000_000, 0)];
+    let four = on_bus(&self::table(1, &[1; 4], &one), 37_500);
+    assert_eq!([1, 2, 3, 4].map(|core| request_delay(&four, core)), [112_500; 4]);
 }
 
 #[test]
@@ -194,4 +221,109 @@ fn a_request_total_beyond_64_bits_is_not_small() {
     table.task[2] = Task { core: 1, c: 999_000_000_000, t: 1_000_000_000_000, d: 1_000_000_000_000, h: 0 };
     assert!(request_delay(&table, 1) * 9_991 * 1_000_000 > u128::from(u64::MAX));
     assert!(matches!(judged(&table, 3, 0), Ok(Answer { verdict: Verdict::Holds { by: By::Job, .. }, .. })));
+}
+
+/// (cores - 1) times s, whatever the sets are: 0 on one core, 7 times on eight.
+#[test]
+fn request_delays_on_a_bus() {
+    let one = [task(1, 1, 100_000_000, 0)];
+    assert_eq!(request_delay(&on_bus(&table(1, &[1], &one), 65_535), 1), 0);
+    assert_eq!(request_delay(&on_bus(&table(1, &[1; 8], &one), 65_535), 8), 458_745);
+    assert_eq!(request_delay(&on_bus(&table(8, &[1, 2, 4, 8, 16, 32, 64, 128], &one), 1), 3), 7);
+}
+
+/// With A of 3, 100 and 5 and s 1000: each core waits for the other two, and not for itself.
+#[test]
+fn job_delays_on_a_bus() {
+    let mut a = [0; CORES];
+    a[..3].copy_from_slice(&[3, 100, 5]);
+    let delays = Delays::new(&bus_of_three(3));
+    assert_eq!([0, 1, 2].map(|p| delays.job(p, &a)), [105_000, 8_000, 103_000]);
+}
+
+/// Within one period A is 2 H. Core 2: 1000 requests at (3 - 1) 1000 are 2,000,000, and the others' 20 + 40 at 1000 are 60,000.
+/// Cores 1 and 3: 10 and 20 requests at 2000 are 20,000 and 40,000, and the others' 2040 and 2020 at 1000 are more. With five
+/// cores more, which have no task, a request waits 7000.
+#[test]
+fn three_cores_on_a_bus() {
+    let judged = |cores: usize| [1, 2, 3].map(|number| judged(&bus_of_three(cores), number, 0));
+    let core_2 = holds(1_060_000, By::Job, 2);
+    assert_eq!(judged(3), [holds(1_020_000, By::Request, 2), core_2, holds(1_040_000, By::Request, 2)]);
+    assert_eq!(judged(8), [holds(1_070_000, By::Request, 2), core_2, holds(1_140_000, By::Request, 2)]);
+}
+
+/// Twice the other core's requests: both delays are 200 times 65,535.
+#[test]
+fn equal_delays_on_a_bus_are_request() {
+    let tasks = [task(1, 1_000_000, 1_000_000_000, 200), task(2, 1_000_000, 1_000_000_000, 100)];
+    let table = on_bus(&table(1, &[1, 1], &tasks), 65_535);
+    assert_eq!(judged(&table, 1, 0), holds(14_107_000, By::Request, 2));
+}
+
+/// RULES 11.6 on a bus, where it holds by 11.10. After another s, other sets and a DRAM it is judged fresh.
+#[test]
+fn carried_on_a_bus() {
+    let (older, mut newer) = (on_bus(&listed(), 37_500), on_bus(&listed(), 37_500));
+    newer.task[0].c = 1_100_000_000;
+    let third = |older: &Table| carry::answers(older, &newer)[2];
+    assert!(carry::worsens(&older, &newer) && !carry::worsens(&newer, &older));
+    assert_eq!(Ok(third(&older)), holds(11_207_500_000, By::Job, 2));
+    let mut sharing = older;
+    sharing.sets[1] = sharing.sets[0];
+    for other in [on_bus(&listed(), 37_499), sharing, listed()] {
+        assert!(!carry::worsens(&other, &newer));
+        assert_eq!(Ok(third(&other)), holds(11_207_500_000, By::Job, 3));
+    }
+    assert!(!carry::worsens(&Table { fourth: 0, ..older }, &newer));
+}
+
+#[test]
+fn figures_of_a_bus() {
+    let with = |faults: &[(usize, u16)]| {
+        let mut table = on_bus(&listed(), 37_500);
+        faults.iter().for_each(|&(number, figure)| table.timing[number - 1] = figure);
+        table.check()
+    };
+    let refused = |place: usize| Err(Refusal { number: 16, place: place as u8 });
+    assert_eq!([1, 5_001, 65_535].map(|s| with(&[(1, s)])), [Ok(()); 3]);
+    assert_eq!(with(&[(1, 0)]), refused(1));
+    for number in 2..=FIGURES {
+        assert_eq!(with(&[(number, 1)]), refused(number));
+        assert_eq!(with(&[(number, 65_535), (15, 1)]), refused(number));
+        assert_eq!(with(&[(number, 1), (1, 0)]), refused(1));
+    }
+}
+
+/// 5 before 16, 16 before 8, and 8 of a bus table like any other.
+#[test]
+fn order_of_refusals_on_a_bus() {
+    let mut table = on_bus(&listed(), 37_500);
+    table.sets[1] = 0;
+    assert_eq!(table.check(), Err(Refusal { number: 8, place: 2 }));
+    table.sets[1] = 4;
+    assert_eq!(table.check(), Err(Refusal { number: 8, place: 2 }));
+    table.timing[14] = 65_535;
+    assert_eq!(table.check(), Err(Refusal { number: 16, place: 15 }));
+    table.fourth = 3;
+    assert_eq!(table.check(), Err(Refusal::plain(5)));
+}
+
+/// Bit 0 alone passes. Without it a bus's figures are refused as those of a DRAM, and with it a DRAM's as those of a bus.
+#[test]
+fn fourth_bytes() {
+    for fourth in 0..=u8::MAX {
+        let (of_dram, of_bus) = match fourth {
+            0 => (Ok(()), Err(Refusal { number: 6, place: 1 })),
+            1 => (Err(Refusal { number: 16, place: 2 }), Ok(())),
+            _ => (Err(Refusal::plain(5)), Err(Refusal::plain(5))),
+        };
+        for (table, expected) in [(listed(), of_dram), (on_bus(&listed(), 37_500), of_bus)] {
+            let mut file = bytes(&table);
+            file[3] = fourth;
+            file::seal(&mut file);
+            let table = Table { fourth, ..table };
+            assert_eq!(table.check(), expected);
+            assert_eq!(file::read(&file), expected.map(|()| table));
+        }
+    }
 }

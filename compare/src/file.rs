@@ -24,14 +24,12 @@ pub const fn record_at(cores: usize, number: usize) -> usize {
     SETS_AT + 2 * cores + RECORD * (number - 1)
 }
 
-/// The table of a file, or the lowest of refusals 1 to 11 that applies.
+/// The table of a file, or the first of refusals 1 to 11 and 16 that applies.
 pub fn read(file: &[u8]) -> Result<Table, Refusal> {
     check_envelope(file)?;
-    let mut table = Table { cores: file[0], partitions: file[1], tasks: file[2], ..Table::default() };
-    table.check_counts()?;
-    if file[3] != 0 {
-        return Err(Refusal::plain(5));
-    }
+    let [cores, partitions, tasks, fourth] = part(file, 0);
+    let mut table = Table { cores, partitions, tasks, fourth, ..Table::default() };
+    table.check_header()?;
     for (figure, bytes) in table.timing.iter_mut().zip(file[TIMING_AT..SETS_AT].chunks_exact(2)) {
         *figure = u16::from_le_bytes(part(bytes, 0));
     }
@@ -46,7 +44,7 @@ pub fn read(file: &[u8]) -> Result<Table, Refusal> {
     Ok(table)
 }
 
-/// Writes the file of a table and answers its length. Refuses by 5 to 11 and 15, and then writes nothing.
+/// Writes the file of a table and answers its length. Refuses by 5 to 11, 16 and 15, and then writes nothing.
 pub fn write(table: &Table, out: &mut [u8]) -> Result<usize, Refusal> {
     table.check()?;
     let length = file_length(table.sets().len(), table.tasks().len());
@@ -56,7 +54,7 @@ pub fn write(table: &Table, out: &mut [u8]) -> Result<usize, Refusal> {
     Ok(length)
 }
 
-/// The part of the file that is the record of task `number`. Refuses by 1 to 12.
+/// The part of the file that is the record of task `number`. Refuses by 1 to 11, 16 and 12.
 pub fn view(file: &[u8], number: u8) -> Result<&[u8], Refusal> {
     let table = read(file)?;
     if !(1..=table.tasks).contains(&number) {
@@ -104,7 +102,7 @@ pub fn sums(bytes: &[u8]) -> (u64, u64) {
 
 fn write_body(table: &Table, body: &mut [u8]) {
     let (head, tasks) = body.split_at_mut(SETS_AT + 2 * table.sets().len());
-    head[..HEADER].copy_from_slice(&[table.cores, table.partitions, table.tasks, 0]);
+    head[..HEADER].copy_from_slice(&[table.cores, table.partitions, table.tasks, table.fourth]);
     let pairs = table.timing.iter().chain(table.sets());
     for (bytes, pair) in head[TIMING_AT..].chunks_exact_mut(2).zip(pairs) {
         bytes.copy_from_slice(&pair.to_le_bytes());

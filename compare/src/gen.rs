@@ -1,9 +1,11 @@
 //! A small seeded generator of numbers, and of tables, accepted and faulty.
 
-use crate::delay::{Delays, Timing};
+use crate::bus;
+use crate::delay::Delays;
+use crate::dram::{Timing, BL, DDR3_1333, RANGES};
 use crate::file::{file_length, seal, write_record, RECORD, TRAILER};
 use crate::judge::{Answer, Verdict};
-use crate::table::{Table, Task, BL, DDR3_1333, FIGURES, H_HIGHEST, RANGES, T_HIGHEST, T_LOWEST};
+use crate::table::{Kind, Table, Task, FIGURES, H_HIGHEST, T_HIGHEST, T_LOWEST};
 
 /// The place of Ncols among the figures, from 0.
 const NCOLS: usize = 13;
@@ -60,6 +62,20 @@ pub struct Draft {
 }
 
 impl Draft {
+    pub fn kind(&self) -> Kind {
+        Kind::of(self.fourth)
+    }
+
+    /// The same with these timing figures of a table of that kind.
+    pub fn with_timing(&self, kind: Kind, timing: [u16; FIGURES]) -> Draft {
+        Draft { fourth: kind.fourth(), timing, ..self.clone() }
+    }
+
+    /// The same on a bus whose s is this.
+    pub fn on_bus(&self, turn: u16) -> Draft {
+        self.with_timing(Kind::Bus, bus::figures(turn))
+    }
+
     /// The file, with its trailer.
     pub fn file(&self) -> Vec<u8> {
         let mut file = Vec::with_capacity(file_length(self.sets.len(), self.tasks.len()));
@@ -83,12 +99,20 @@ enum Style {
     Any,
     /// Shorter periods first, and a load that often just about fits where a request takes so long.
     Busy { per_request: u64 },
+    /// As busy, but that one core has half the tasks and nearly all requests: there job decides, and on the others request.
+    Uneven { per_request: u64, heavy: u8 },
     /// Figures at their limits.
     Limits,
 }
 
-/// An accepted table.
+/// An accepted table; one in three is a bus table.
 pub fn draft(rng: &mut Rng) -> Draft {
+    let kind = rng.pick(&[Kind::Dram, Kind::Dram, Kind::Bus]);
+    draft_of(rng, kind)
+}
+
+/// An accepted table of this kind.
+pub fn draft_of(rng: &mut Rng, kind: Kind) -> Draft {
     let cores = match rng.index(4) {
         0 => rng.pick(&[1, 2, 8]),
         _ => rng.between(1, 8),
@@ -99,18 +123,37 @@ pub fn draft(rng: &mut Rng) -> Draft {
     };
     let partitions = rng.between(1, 16) as u8;
     let busy = Style::Busy { per_request: 10u64.pow(rng.between(6, 10) as u32) };
-    let style = rng.pick(&[Style::Any, busy, busy, busy, Style::Limits]);
+    let uneven = Style::Uneven { per_request: 10u64.pow(rng.between(5, 7) as u32), heavy: rng.between(1, cores) as u8 };
+    let style = rng.pick(&[Style::Any, busy, busy, uneven, Style::Limits]);
     Draft {
         partitions,
-        fourth: 0,
-        timing: timing(rng),
+        fourth: kind.fourth(),
+        timing: timing(rng, kind),
         sets: sets(rng, cores as usize, partitions),
         tasks: tasks_of(rng, style, cores, tasks),
     }
 }
 
-/// An accepted timing: the DDR3-1333 row, a row near it or any row.
-pub fn timing(rng: &mut Rng) -> [u16; FIGURES] {
+/// Accepted timing figures of a table of this kind.
+pub fn timing(rng: &mut Rng, kind: Kind) -> [u16; FIGURES] {
+    match kind {
+        Kind::Dram => dram_timing(rng),
+        Kind::Bus => bus::figures(turn(rng)),
+    }
+}
+
+/// The s of a bus table: at its limits, a typical one, or any.
+fn turn(rng: &mut Rng) -> u16 {
+    match rng.index(6) {
+        0 => 1,
+        1 => u16::MAX,
+        2 | 3 => rng.pick(&[12_500, 37_500, 50_000]),
+        _ => rng.any_size(1, u16::MAX.into()) as u16,
+    }
+}
+
+/// The DDR3-1333 row, a row near it or any row.
+fn dram_timing(rng: &mut Rng) -> [u16; FIGURES] {
     let near = rng.once_in(2);
     loop {
         let mut row = DDR3_1333;
@@ -139,7 +182,7 @@ fn in_range(rng: &mut Rng, at: usize) -> u16 {
 }
 
 /// Sets that pass: apart as far as the partitions reach, all sharing, or any.
-fn sets(rng: &mut Rng, cores: usize, partitions: u8) -> Vec<u16> {
+pub fn sets(rng: &mut Rng, cores: usize, partitions: u8) -> Vec<u16> {
     let all = u16::MAX >> (16 - partitions);
     let style = rng.index(4);
     let shared = rng.between(1, all.into()) as u16;
@@ -155,7 +198,7 @@ fn sets(rng: &mut Rng, cores: usize, partitions: u8) -> Vec<u16> {
 
 fn tasks_of(rng: &mut Rng, style: Style, cores: u64, count: u64) -> Vec<Task> {
     let mut tasks: Vec<Task> = (0..count).map(|_| task(rng, style, cores, count)).collect();
-    if matches!(style, Style::Busy { .. }) {
+    if matches!(style, Style::Busy { .. } | Style::Uneven { .. }) {
         tasks.sort_by_key(|task| task.t);
     }
     tasks
@@ -170,11 +213,14 @@ fn task(rng: &mut Rng, style: Style, cores: u64, count: u64) -> Task {
             Task { core, c: rng.any_size(1, d), t, d, h: rng.any_size(0, H_HIGHEST.into()) as u32 }
         }
         Style::Busy { per_request } => {
-            let t = rng.any_size(T_LOWEST, T_HIGHEST);
-            let d = if rng.once_in(2) { t } else { rng.between(t / 2, t) };
-            let share = count.div_ceil(cores);
-            let c = rng.between(1, d / share);
-            Task { core, c, t, d, h: busy_requests(rng, t / per_request) }
+            let task = busy_task(rng, core, count.div_ceil(cores));
+            Task { h: busy_requests(rng, task.t / per_request), ..task }
+        }
+        Style::Uneven { per_request, heavy } => {
+            let core = if rng.once_in(2) { heavy } else { core };
+            let task = busy_task(rng, core, count.div_ceil(2));
+            let room = task.t / if core == heavy { per_request } else { 100 * per_request };
+            Task { h: rng.between(0, room.min(H_HIGHEST.into())) as u32, ..task }
         }
         Style::Limits => {
             let t = rng.pick(&[T_LOWEST, T_HIGHEST]);
@@ -183,6 +229,13 @@ fn task(rng: &mut Rng, style: Style, cores: u64, count: u64) -> Task {
             Task { core, c, t, d, h: rng.pick(&[0, 1, H_HIGHEST - 1, H_HIGHEST]) }
         }
     }
+}
+
+/// A task with no requests, beside which `share` of its like about fit on a core.
+fn busy_task(rng: &mut Rng, core: u8, share: u64) -> Task {
+    let t = rng.any_size(T_LOWEST, T_HIGHEST);
+    let d = if rng.once_in(2) { t } else { rng.between(t / 2, t) };
+    Task { core, c: rng.between(1, d / share), t, d, h: 0 }
 }
 
 /// Mostly as many as there is room for.
@@ -196,6 +249,15 @@ fn busy_requests(rng: &mut Rng, room: u64) -> u32 {
         _ => rng.between(0, room),
     };
     requests.min(highest) as u32
+}
+
+/// The table with the same cores and tasks on the other kind of board; accepted like it.
+pub fn on_the_other_kind(rng: &mut Rng, draft: &Draft) -> Draft {
+    let other = match draft.kind() {
+        Kind::Dram => Kind::Bus,
+        Kind::Bus => Kind::Dram,
+    };
+    draft.with_timing(other, timing(rng, other))
 }
 
 /// The table with execution times and request counts as they were or raised, and periods as they were or shortened; accepted like it.
@@ -353,6 +415,7 @@ mod tests {
     use super::*;
     use crate::file;
     use crate::judge::{By, Judge};
+    use crate::listing::listing;
 
     /// The whole numbers hold by job; 64 bits would hold by request.
     #[test]
@@ -373,6 +436,37 @@ mod tests {
             assert!(file::read(&draft(&mut rng).file()).is_ok());
             assert!(file::read(&measured(&mut rng, 32, 8, true).file()).is_ok());
             assert!(file::read(&measured(&mut rng, 4, 8, false).file()).is_ok());
+        }
+    }
+
+    /// A third are bus tables, and of their tasks many hold by each delay and many miss.
+    #[test]
+    fn both_delays_decide_on_a_bus() {
+        let mut rng = Rng::new(4);
+        let (mut tables, mut request, mut job, mut misses) = (0, 0, 0, 0);
+        for draft in (0..900).map(|_| draft(&mut rng)).filter(|draft| draft.kind() == Kind::Bus) {
+            let table = file::read(&draft.file()).expect("a draft is accepted");
+            tables += 1;
+            for answer in &Judge::of_accepted(&table).all(&[]).expect("it is fresh")[..table.tasks().len()] {
+                match answer.verdict {
+                    Verdict::Holds { by: By::Request, .. } => request += 1,
+                    Verdict::Holds { by: By::Job, .. } => job += 1,
+                    Verdict::Misses => misses += 1,
+                }
+            }
+        }
+        assert!((250..350).contains(&tables), "{tables}");
+        assert!([request, job, misses].iter().all(|&tasks| tasks > 300), "{request}, {job}, {misses}");
+    }
+
+    /// RULES 11.10: a turn of 37,500 ps costs what a request of a core apart does under DDR3-1333.
+    #[test]
+    fn a_bus_is_like_cores_apart() {
+        let mut rng = Rng::new(5);
+        for (tasks, cores) in (1..=32).flat_map(|tasks| (1..=8).map(move |cores| (tasks, cores))) {
+            let heavy = rng.once_in(2);
+            let apart = measured(&mut rng, tasks, cores, heavy);
+            assert_eq!(listing(&apart.file()), listing(&apart.on_bus(37_500).file()));
         }
     }
 }

@@ -36,7 +36,7 @@ pub struct Judge<'a> {
 }
 
 impl<'a> Judge<'a> {
-    /// Refuses by 5 to 11.
+    /// Refuses by 5 to 11 and 16.
     pub fn new(table: &'a Table) -> Result<Judge<'a>, Refusal> {
         table.check()?;
         Ok(Judge::of_accepted(table))

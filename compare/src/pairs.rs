@@ -63,7 +63,7 @@ fn elsewhere(rng: &mut Rng, draft: &Draft, kind: usize) -> Draft {
         2 => task.c = rng.between(1, task.c),
         3 => task.h = rng.between(0, task.h.into()) as u32,
         4 => task.core = rng.between(1, cores) as u8,
-        5 => other.timing = gen::timing(rng),
+        5 => other.timing = gen::timing(rng, draft.kind()),
         6 => other.sets[core] = rng.between(1, (1 << other.partitions) - 1) as u16,
         7 => other.partitions = rng.between(other.partitions.into(), 16) as u8,
         8 => other.tasks.truncate(k + 1),

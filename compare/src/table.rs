@@ -1,6 +1,7 @@
-//! The table, its ranges and relations: refusals 5 to 11.
+//! The table, its kind and its checks: refusals 5 and 8 to 11, and between them those of its timing figures.
 
-use crate::delay::Timing;
+use crate::bus;
+use crate::dram;
 use crate::refusal::{first_fault, Refusal};
 
 pub const CORES: usize = 8;
@@ -12,30 +13,34 @@ pub const T_LOWEST: u64 = 100_000_000;
 pub const T_HIGHEST: u64 = 1_000_000_000_000;
 pub const H_HIGHEST: u32 = 1_000_000;
 
-/// The lowest and the highest of each timing figure, in the file's order. Of 4 to 16 only three pass for BL.
-pub const RANGES: [(u16, u16); FIGURES] = [
-    (1, 5000),  // tCK, picoseconds
-    (1, 127),   // tRP
-    (1, 127),   // tRCD
-    (1, 127),   // CL
-    (1, 127),   // WL
-    (4, 16),    // BL
-    (1, 127),   // tWTR
-    (1, 127),   // tWR
-    (1, 127),   // tRRD
-    (1, 127),   // tFAW
-    (1, 127),   // tRAS
-    (1, 127),   // tRTP
-    (0, 127),   // tRTRS
-    (64, 2048), // Ncols
-    (0, 65535), // Ncap, 65535 where unknown
-];
+/// The bit of the fourth byte that makes a bus table.
+const BUS_BIT: u8 = 1;
 
-/// The place of BL among the figures, from 0.
-pub const BL: usize = 5;
+/// What the cores share: a DRAM, or a memory behind a bus that serves them in turn.
+#[derive(Clone, Copy, Debug, PartialEq, Eq)]
+pub enum Kind {
+    Dram,
+    Bus,
+}
 
-/// The DDR3-1333 row, Ncap unknown.
-pub const DDR3_1333: [u16; FIGURES] = [1500, 9, 9, 9, 7, 8, 5, 10, 4, 20, 24, 5, 2, 1024, 65535];
+impl Kind {
+    /// What a table's fourth byte tells. Its other bits tell nothing.
+    pub fn of(fourth: u8) -> Kind {
+        if fourth & BUS_BIT == 0 {
+            Kind::Dram
+        } else {
+            Kind::Bus
+        }
+    }
+
+    /// The fourth byte of an accepted table of this kind.
+    pub fn fourth(self) -> u8 {
+        match self {
+            Kind::Dram => 0,
+            Kind::Bus => BUS_BIT,
+        }
+    }
+}
 
 /// A task: its core from 1, its times in picoseconds, its requests.
 #[derive(Clone, Copy, Debug, Default, PartialEq, Eq)]
@@ -53,6 +58,7 @@ pub struct Table {
     pub cores: u8,
     pub partitions: u8,
     pub tasks: u8,
+    pub fourth: u8,
     pub timing: [u16; FIGURES],
     pub sets: [u16; CORES],
     pub task: [Task; TASKS],
@@ -69,11 +75,17 @@ impl Table {
         &self.task[..usize::from(self.tasks)]
     }
 
-    /// The lowest of refusals 5 to 11 that applies.
+    pub fn kind(&self) -> Kind {
+        Kind::of(self.fourth)
+    }
+
+    /// The first of refusals 5 to 11 and 16 that applies, in the order of RULES 9.3.
     pub fn check(&self) -> Result<(), Refusal> {
-        self.check_counts()?;
-        first_fault(6, self.timing.iter().enumerate().map(|(at, &figure)| !figure_passes(at, figure)))?;
-        first_fault(7, Timing::new(&self.timing).relations().map(|holds| !holds))?;
+        self.check_header()?;
+        match self.kind() {
+            Kind::Dram => dram::check(&self.timing)?,
+            Kind::Bus => bus::check(&self.timing)?,
+        }
         first_fault(8, self.sets().iter().map(|&set| !self.set_passes(set)))?;
         first_fault(9, self.tasks().iter().map(|task| !(1..=self.cores).contains(&task.core)))?;
         first_fault(10, self.tasks().iter().map(|task| !task.times_pass()))?;
@@ -81,9 +93,10 @@ impl Table {
     }
 
     /// Refusal 5.
-    pub fn check_counts(&self) -> Result<(), Refusal> {
+    pub fn check_header(&self) -> Result<(), Refusal> {
         let passes = |count: u8, highest: usize| (1..=highest).contains(&usize::from(count));
-        if passes(self.cores, CORES) && passes(self.partitions, PARTITIONS) && passes(self.tasks, TASKS) {
+        let counts = passes(self.cores, CORES) && passes(self.partitions, PARTITIONS) && passes(self.tasks, TASKS);
+        if counts && self.fourth & !BUS_BIT == 0 {
             Ok(())
         } else {
             Err(Refusal::plain(5))
@@ -100,9 +113,4 @@ impl Task {
     fn times_pass(&self) -> bool {
         (T_LOWEST..=T_HIGHEST).contains(&self.t) && (1..=self.t).contains(&self.d) && (1..=self.d).contains(&self.c)
     }
-}
-
-fn figure_passes(at: usize, figure: u16) -> bool {
-    let (lowest, highest) = RANGES[at];
-    (lowest..=highest).contains(&figure) && (at != BL || [4, 8, 16].contains(&figure))
 }
