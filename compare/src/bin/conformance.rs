@@ -7,6 +7,7 @@ use std::fs;
 use std::io;
 use std::process::ExitCode;
 
+use compare_model::carry;
 use compare_model::file::{self, part};
 use compare_model::judge::{Answer, By, Judge, Verdict};
 use compare_model::listing::{lines, listing, name};
@@ -18,6 +19,8 @@ const RAW_SETS: usize = 4 + 2 * FIGURES + 8;
 const RAW_TASKS: usize = RAW_SETS + 16;
 /// A raw task is a record and its J.
 const RAW_TASK: usize = 37;
+/// A raw table as a whole.
+const RAW: usize = RAW_TASKS + RAW_TASK * TASKS;
 /// Writing goes to this much room of this byte.
 const ROOM: usize = 2048;
 const FILLER: u8 = 165;
@@ -65,7 +68,8 @@ fn answer(letter: char, payload: &[u8]) -> String {
         'V' => line(file::view(&payload[1..], payload[0]).map(|part| format!("part {}", hex(part)))),
         'W' => writing(usize::from(u16::from_le_bytes(part(payload, 0))), &raw(&payload[2..])),
         'J' => line(judge_one(payload[0], u64::from_le_bytes(part(payload, 1)), &raw(&payload[9..]))),
-        'A' => judge_all(&payload[..8 * TASKS], &raw(&payload[8 * TASKS..])),
+        'A' => fields(judge_all(&payload[..8 * TASKS], &raw(&payload[8 * TASKS..]))),
+        'K' => fields(judge_carried(&raw(payload), &raw(&payload[RAW..]))),
         'T' => list_raw(&payload[..8 * TASKS], &raw(&payload[8 * TASKS..])),
         _ => panic!("no operation has the letter {letter}"),
     }
@@ -119,9 +123,24 @@ fn list_raw(starts: &[u8], table: &Table) -> String {
     }
 }
 
-fn judge_all(starts: &[u8], table: &Table) -> String {
-    let (head, answers) = match all(starts, table) {
-        Ok(answers) => ("all".to_owned(), answers),
+/// What is said before the fields of all answers, and these.
+type Headed = (&'static str, [Answer; TASKS]);
+
+fn judge_all(starts: &[u8], table: &Table) -> Result<Headed, Refusal> {
+    Ok(("all", all(starts, table)?))
+}
+
+fn judge_carried(older: &Table, newer: &Table) -> Result<Headed, Refusal> {
+    older.check()?;
+    newer.check()?;
+    let head = if carry::worsens(older, newer) { "carried" } else { "fresh" };
+    Ok((head, carry::answers(older, newer)))
+}
+
+/// One line; of a refusal with misses in 0 rounds.
+fn fields(result: Result<Headed, Refusal>) -> String {
+    let (head, answers) = match result {
+        Ok((head, answers)) => (head.to_owned(), answers),
         Err(refusal) => (refused(refusal), [Answer::default(); TASKS]),
     };
     let fields: Vec<String> = answers.iter().map(field).collect();
@@ -139,7 +158,8 @@ fn field(answer: &Answer) -> String {
 
 /// A table that is passed directly.
 fn raw(bytes: &[u8]) -> Table {
-    let mut table = Table { cores: bytes[0], partitions: bytes[1], tasks: bytes[2], ..Table::default() };
+    let [cores, partitions, tasks, fourth] = part(bytes, 0);
+    let mut table = Table { cores, partitions, tasks, fourth, ..Table::default() };
     for (at, figure) in table.timing.iter_mut().enumerate() {
         *figure = u16::from_le_bytes(part(bytes, 4 + 2 * at));
     }
