@@ -7,6 +7,7 @@ use compare_model::judge::{Answer, Judge};
 use compare_model::listing::listing;
 use compare_model::table::{Table, Task, CORES, FIGURES, PARTITIONS, TASKS, T_HIGHEST, T_LOWEST};
 
+use crate::bus_cases;
 use crate::comparer::{Comparer, Difference, Reaches};
 use crate::pairs;
 
@@ -37,6 +38,7 @@ pub fn all(on: &mut Comparer, seed: u64, count: u64) -> Outcome {
     trailers(on)?;
     sums(on)?;
     examples(on)?;
+    bus_cases::all(on, &mut rng)?;
     wide_totals(on, &mut rng)?;
     pairs::reasons(on)?;
     for case in 0..count {
@@ -46,7 +48,7 @@ pub fn all(on: &mut Comparer, seed: u64, count: u64) -> Outcome {
 }
 
 /// Every call on a file, in the plainest way.
-fn calls(on: &mut Comparer, file: &[u8]) -> Outcome {
+pub fn calls(on: &mut Comparer, file: &[u8]) -> Outcome {
     on.read(file)?;
     on.tasks(file)?;
     on.judge(file, &[], Reaches::all(TASKS))?;
@@ -81,7 +83,7 @@ fn lengths(on: &mut Comparer) -> Outcome {
 }
 
 /// A table with these counts that is right in all else.
-fn plain(cores: usize, partitions: u8, tasks: usize) -> Draft {
+pub fn plain(cores: usize, partitions: u8, tasks: usize) -> Draft {
     let task = |k: usize| Task {
         core: (k % cores.clamp(1, 255) + 1) as u8,
         c: 1_000_000,
@@ -92,7 +94,7 @@ fn plain(cores: usize, partitions: u8, tasks: usize) -> Draft {
     Draft { partitions, fourth: 0, timing: DDR3_1333, sets: vec![1; cores], tasks: (0..tasks).map(task).collect() }
 }
 
-/// Each count at its limits and one outside, and the fourth byte.
+/// Each count at its limits and one outside.
 fn counts(on: &mut Comparer) -> Outcome {
     for cores in [0, 1, CORES, CORES + 1, 255] {
         for tasks in [0, 1, TASKS, TASKS + 1, 255] {
@@ -100,9 +102,6 @@ fn counts(on: &mut Comparer) -> Outcome {
                 calls(on, &plain(cores, partitions, tasks).file())?;
             }
         }
-    }
-    for fourth in [1, 2, 128, 255] {
-        calls(on, &Draft { fourth, ..plain(2, 2, 3) }.file())?;
     }
     Ok(())
 }
@@ -183,24 +182,32 @@ fn largest_of(on: &mut Comparer) -> Outcome {
 }
 
 /// Both answer this refusal. The own reading is held to it too, so that a case is what it is meant to be.
-fn expect(on: &mut Comparer, file: &[u8], code: u16) -> Outcome {
+pub fn expect(on: &mut Comparer, file: &[u8], code: u16) -> Outcome {
     let answered = on.read(file)?;
     assert_eq!(answered, code, "the case isn't what it is meant to be");
     calls(on, file)
 }
 
-/// Empty sets, all partitions, one above the count, in each core's place.
+/// Sets of either kind of table.
 fn set_limits(on: &mut Comparer) -> Outcome {
     for partitions in 1..=PARTITIONS as u8 {
-        let all = u16::MAX >> (16 - partitions);
-        for core in [0, 3, CORES - 1] {
-            for set in [0, 1, all, all.wrapping_add(1), 1 << (partitions - 1), 0x8000, u16::MAX, all ^ u16::MAX] {
-                let mut draft = plain(CORES, partitions, 2);
-                draft.sets[core] = set;
-                calls(on, &draft.file())?;
-                draft.sets[(core + 2) % CORES] = 0;
-                on.read(&draft.file())?;
-            }
+        let sound = plain(CORES, partitions, 2);
+        set_limits_of(on, &sound)?;
+        set_limits_of(on, &sound.on_bus(37_500))?;
+    }
+    Ok(())
+}
+
+/// Empty sets, all partitions, one above the count, in each core's place.
+fn set_limits_of(on: &mut Comparer, sound: &Draft) -> Outcome {
+    let all = u16::MAX >> (16 - sound.partitions);
+    for core in [0, 3, CORES - 1] {
+        for set in [0, 1, all, all.wrapping_add(1), 1 << (sound.partitions - 1), 0x8000, u16::MAX, all ^ u16::MAX] {
+            let mut draft = sound.clone();
+            draft.sets[core] = set;
+            calls(on, &draft.file())?;
+            draft.sets[(core + 2) % CORES] = 0;
+            on.read(&draft.file())?;
         }
     }
     Ok(())
@@ -297,40 +304,43 @@ fn file_with_running_sum(running: u64) -> Vec<u8> {
     file
 }
 
-/// The tables of RULES 11.4 to 11.7, whole and damaged at every byte.
-fn examples(on: &mut Comparer) -> Outcome {
-    let second = 1_000_000_000;
-    let task = |core, c, t, h| Task { core, c, t, d: t, h };
+/// A millisecond, in ps.
+const MS: u64 = 1_000_000_000;
+
+/// A task with its deadline at the end of its period.
+fn task(core: u8, c: u64, t: u64, h: u32) -> Task {
+    Task { core, c, t, d: t, h }
+}
+
+/// The listed table (RULES 11.4).
+pub fn listed() -> Draft {
     let mut listed = plain(2, 2, 0);
     listed.sets = vec![1, 2];
-    listed.tasks = vec![
-        task(1, second, 10 * second, 1000),
-        task(2, 2 * second, 20 * second, 100),
-        task(1, 9 * second, 20 * second, 0),
-    ];
+    listed.tasks = vec![task(1, MS, 10 * MS, 1000), task(2, 2 * MS, 20 * MS, 100), task(1, 9 * MS, 20 * MS, 0)];
+    listed
+}
+
+/// The listed table with its first task raised (RULES 11.6).
+pub fn raised() -> Draft {
+    let mut raised = listed();
+    raised.tasks[0].c = 1_100_000_000;
+    raised
+}
+
+/// The tables of RULES 11.4 to 11.7, whole and damaged at every byte.
+fn examples(on: &mut Comparer) -> Outcome {
+    let (listed, raised) = (listed(), raised());
     let mut tight = listed.clone();
     tight.tasks[2].d = 11_007_499_999;
-    let mut raised = listed.clone();
-    raised.tasks[0].c = 1_100_000_000;
     let mut two_solutions = plain(1, 1, 0);
-    two_solutions.tasks = vec![task(1, 6 * second, 10 * second, 0), task(1, 3 * second, 20 * second, 0)];
+    two_solutions.tasks = vec![task(1, 6 * MS, 10 * MS, 0), task(1, 3 * MS, 20 * MS, 0)];
     for draft in [&listed, &tight, &raised, &two_solutions] {
-        let file = draft.file();
-        calls(on, &file)?;
-        records(on, &file)?;
-        cuts(on, &file)?;
-        for at in 0..file.len() {
-            for value in [0, 1, file[at] ^ 1, file[at].wrapping_add(1), 255] {
-                altered(on, &file, at, value)?;
-            }
-        }
+        whole_and_damaged(on, draft)?;
     }
     for (older, newer) in [(&listed, &raised), (&raised, &listed), (&listed, &tight), (&listed, &two_solutions)] {
         pairs::calls(on, &older.file(), &newer.file())?;
     }
-    for start in
-        [0, 1, 9 * second, 11_007_499_999, 11_007_500_000, 11_007_500_001, 20 * second, 20 * second + 1, u64::MAX]
-    {
+    for start in [0, 1, 9 * MS, 11_007_499_999, 11_007_500_000, 11_007_500_001, 20 * MS, 20 * MS + 1, u64::MAX] {
         on.judge(&listed.file(), &[0, 0, start], Reaches::all(TASKS))?;
         on.judge(&raised.file(), &[0, 0, start], Reaches::all(TASKS))?;
         for places in 0..=4 {
@@ -339,10 +349,22 @@ fn examples(on: &mut Comparer) -> Outcome {
             on.judge(&listed.file(), &[0, 0, start], Reaches { by: places, ..Reaches::all(3) })?;
         }
     }
-    for start in
-        [0, 9 * second, 9 * second + 1, 12 * second, 15 * second, 15 * second + 1, 20 * second, 20 * second + 1]
-    {
+    for start in [0, 9 * MS, 9 * MS + 1, 12 * MS, 15 * MS, 15 * MS + 1, 20 * MS, 20 * MS + 1] {
         on.judge(&two_solutions.file(), &[0, start], Reaches::all(TASKS))?;
+    }
+    Ok(())
+}
+
+/// A table as it is, and cut at every length and altered at every byte.
+pub fn whole_and_damaged(on: &mut Comparer, draft: &Draft) -> Outcome {
+    let file = draft.file();
+    calls(on, &file)?;
+    records(on, &file)?;
+    cuts(on, &file)?;
+    for at in 0..file.len() {
+        for value in [0, 1, file[at] ^ 1, file[at].wrapping_add(1), 255] {
+            altered(on, &file, at, value)?;
+        }
     }
     Ok(())
 }
@@ -357,8 +379,10 @@ fn wide_totals(on: &mut Comparer, rng: &mut Rng) -> Outcome {
 
 /// One random table, whole and in some ways damaged.
 fn random(on: &mut Comparer, rng: &mut Rng, case: u64) -> Outcome {
-    let draft = match case % 8 {
-        7 => gen::measured(rng, 4 + case as usize % 29, 2 + case as usize % 7, true),
+    let heavy = |rng: &mut Rng| gen::measured(rng, 4 + case as usize % 29, 2 + case as usize % 7, true);
+    let draft = match case % 16 {
+        7 => heavy(rng),
+        15 => heavy(rng).on_bus(37_500),
         _ => gen::draft(rng),
     };
     let file = draft.file();
@@ -460,7 +484,7 @@ fn break_one(rng: &mut Rng, draft: &mut Draft) {
     let task = rng.index(draft.tasks.len());
     let cores = draft.sets.len() as u8;
     let task = &mut draft.tasks[task];
-    match rng.index(14) {
+    match rng.index(16) {
         0 => draft.fourth = rng.word() as u8,
         1 => draft.partitions = rng.pick(&[0, 1, 17, 255]),
         2 => draft.timing[rng.index(FIGURES)] = rng.word() as u16,
@@ -474,6 +498,8 @@ fn break_one(rng: &mut Rng, draft: &mut Draft) {
         10 => task.c = rng.pick(&[0, task.d.wrapping_add(1), u64::MAX]),
         11 => task.h = rng.pick(&[1_000_001, u32::MAX]),
         12 => draft.sets.resize(CORES + 1, 1),
+        13 => draft.fourth ^= 1,
+        14 => draft.fourth |= 1 << rng.between(1, 7),
         _ => {
             let again = *task;
             draft.tasks.resize(TASKS + 1, again);

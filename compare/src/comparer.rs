@@ -6,6 +6,7 @@ use std::io;
 
 use compare_model::answers;
 use compare_model::gen::Rng;
+use compare_model::table::Kind;
 
 use crate::library::{Lent, Library};
 
@@ -51,15 +52,22 @@ impl fmt::Display for Difference {
     }
 }
 
+/// How many tasks of the tables of one kind held by each delay, and missed.
+#[derive(Clone, Debug, Default)]
+pub struct Verdicts {
+    pub by_request: u64,
+    pub by_job: u64,
+    pub misses: u64,
+}
+
 /// What was met, to show that the cases reach what they should.
 #[derive(Clone, Debug, Default)]
 pub struct Tally {
     pub calls: u64,
     pub accepted: u64,
     pub refused: BTreeMap<u16, u64>,
-    pub by_request: u64,
-    pub by_job: u64,
-    pub misses: u64,
+    pub dram: Verdicts,
+    pub bus: Verdicts,
     pub most_rounds: u64,
     pub records: u64,
     pub listings: u64,
@@ -282,11 +290,15 @@ impl Comparer {
             return;
         }
         let tasks = usize::from(file[2]);
+        let verdicts = match Kind::of(file[3]) {
+            Kind::Dram => &mut self.tally.dram,
+            Kind::Bus => &mut self.tally.bus,
+        };
         for &by in &judged.by[..tasks] {
             match by {
-                0 => self.tally.misses += 1,
-                1 => self.tally.by_request += 1,
-                _ => self.tally.by_job += 1,
+                0 => verdicts.misses += 1,
+                1 => verdicts.by_request += 1,
+                _ => verdicts.by_job += 1,
             }
         }
         let most = judged.rounds[..tasks].iter().copied().max().unwrap_or(0);

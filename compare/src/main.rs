@@ -5,6 +5,7 @@
 
 #[cfg(linked)]
 mod bench;
+mod bus_cases;
 mod cases;
 mod comparer;
 #[cfg(linked)]
@@ -18,7 +19,7 @@ use std::error::Error;
 use std::process::ExitCode;
 
 use compare_model::answers::SHORT_OUTPUT;
-use comparer::{Comparer, Tally};
+use comparer::{Comparer, Tally, Verdicts};
 use library::Library;
 
 fn main() -> Result<ExitCode, Box<dyn Error>> {
@@ -38,13 +39,8 @@ fn check(seed: u64, count: u64, serve: &[String]) -> Result<ExitCode, Box<dyn Er
         return Ok(ExitCode::FAILURE);
     }
     println!("{}", summary(seed, count, &on.tally));
-    let never_met = never_met(&on.tally);
-    if count > 0 && on.tally.worsened == 0 {
-        println!("compare: no pair was one worsened, so that this run shows too little");
-        return Ok(ExitCode::FAILURE);
-    }
-    if count > 0 && !never_met.is_empty() {
-        println!("compare: refusals {never_met:?} were never met, so that this run shows too little");
+    if let Some(lack) = lack(&on.tally).filter(|_| count > 0) {
+        println!("compare: {lack}, so that this run shows too little");
         return Ok(ExitCode::FAILURE);
     }
     Ok(ExitCode::SUCCESS)
@@ -52,15 +48,14 @@ fn check(seed: u64, count: u64, serve: &[String]) -> Result<ExitCode, Box<dyn Er
 
 fn summary(seed: u64, count: u64, tally: &Tally) -> String {
     format!(
-        "compare: {} calls agree (seed {seed}, {count} random tables): {} accepted, {} refused; tasks {} by request, {} by job, \
-         {} missed, at most {} rounds; {} listings, {} too long for their room; {} records; \
+        "compare: {} calls agree (seed {seed}, {count} random tables): {} accepted, {} refused; tasks of DRAM tables {}, \
+         of bus tables {}, at most {} rounds; {} listings, {} too long for their room; {} records; \
          {} pairs of files, {} of them worsened",
         tally.calls,
         tally.accepted,
         tally.refused.values().sum::<u64>(),
-        tally.by_request,
-        tally.by_job,
-        tally.misses,
+        verdicts(&tally.dram),
+        verdicts(&tally.bus),
         tally.most_rounds,
         tally.listings,
         tally.too_short,
@@ -70,9 +65,28 @@ fn summary(seed: u64, count: u64, tally: &Tally) -> String {
     )
 }
 
+fn verdicts(of: &Verdicts) -> String {
+    format!("{} by request, {} by job, {} missed", of.by_request, of.by_job, of.misses)
+}
+
+/// What a run has to meet and this one did not.
+fn lack(tally: &Tally) -> Option<String> {
+    let never_met = never_met(tally);
+    if !never_met.is_empty() {
+        return Some(format!("refusals {never_met:?} were never met"));
+    }
+    if tally.worsened == 0 {
+        return Some("no pair was one worsened".to_owned());
+    }
+    let one_sided = |of: &Verdicts| [of.by_request, of.by_job, of.misses].contains(&0);
+    let kinds = [("DRAM", &tally.dram), ("bus", &tally.bus)];
+    let (name, of) = kinds.into_iter().find(|(_, of)| one_sided(of))?;
+    Some(format!("tasks of {name} tables were {}", verdicts(of)))
+}
+
 /// The refusals that the functions can give and that no case met.
 fn never_met(tally: &Tally) -> Vec<u16> {
-    (1..=14).chain([SHORT_OUTPUT.into()]).filter(|number| !tally.refused.contains_key(number)).collect()
+    (1..=14).chain([16, SHORT_OUTPUT.into()]).filter(|number| !tally.refused.contains_key(number)).collect()
 }
 
 /// The served library where a command is given, else the linked one.

@@ -19,7 +19,27 @@ pub fn calls(on: &mut Comparer, older: &[u8], newer: &[u8]) -> Outcome {
     Ok(())
 }
 
-/// A table after itself, after what it was before it got worse, and before; after tables that differ elsewhere; refused on either side.
+/// A table that has only got worse: it is judged from the older bounds.
+pub fn worsened(on: &mut Comparer, older: &Draft, newer: &Draft) -> Outcome {
+    expect(on, older, newer, 1)
+}
+
+/// Two tables of which neither is the other worsened: each is judged fresh after the other.
+pub fn unlike(on: &mut Comparer, one: &Draft, other: &Draft) -> Outcome {
+    expect(on, one, other, 0)?;
+    expect(on, other, one, 0)
+}
+
+/// Both answer this to whether the newer table is the older one worsened. The own reading is held to it too.
+fn expect(on: &mut Comparer, older: &Draft, newer: &Draft, worsens: u8) -> Outcome {
+    let (older, newer) = (older.file(), newer.file());
+    let answered = on.worsens(&older, &newer)?;
+    assert_eq!(answered, worsens, "the pair isn't what it is meant to be");
+    calls(on, &older, &newer)
+}
+
+/// A table after itself, after what it was before it got worse, and before; after tables that differ elsewhere, or in the kind of board;
+/// refused on either side.
 pub fn random(on: &mut Comparer, rng: &mut Rng, draft: &Draft, faulty: &Draft) -> Outcome {
     let worse = gen::worsened(rng, draft);
     let (file, worse, faulty) = (draft.file(), worse.file(), faulty.file());
@@ -29,7 +49,8 @@ pub fn random(on: &mut Comparer, rng: &mut Rng, draft: &Draft, faulty: &Draft) -
         calls(on, older, newer)?;
     }
     short_outputs(on, rng, &file, &worse)?;
-    for kind in 0..11 {
+    unlike(on, draft, &gen::on_the_other_kind(rng, draft))?;
+    for kind in 0..12 {
         let other = elsewhere(rng, draft, kind).file();
         calls(on, &file, &other)?;
         calls(on, &other, &file)?;
@@ -68,26 +89,27 @@ fn elsewhere(rng: &mut Rng, draft: &Draft, kind: usize) -> Draft {
         7 => other.partitions = rng.between(other.partitions.into(), 16) as u8,
         8 => other.tasks.truncate(k + 1),
         9 => other.sets.push(1),
+        10 => other.fourth ^= 1,
         _ => other.tasks.swap(0, k),
     }
     other
 }
 
-/// Every number has a text that fits its own length and no less; the numbers that refuse have one each.
+/// Every number has a text that fits its own length and no less; the numbers that refuse have one each, which no other number has.
 pub fn reasons(on: &mut Comparer) -> Outcome {
-    let mut texts = BTreeSet::new();
+    let (mut refusing, mut others) = (BTreeSet::new(), BTreeSet::new());
     for number in 0..=u8::MAX {
         let text = on.reason(number)?;
-        if (1..=15).contains(&number) || number == SHORT_OUTPUT {
-            texts.insert(text);
-        }
+        let refuses = (1..=16).contains(&number) || number == SHORT_OUTPUT;
+        if refuses { &mut refusing } else { &mut others }.insert(text);
     }
-    if texts.len() == 16 {
+    let own = refusing.difference(&others).count();
+    if own == 17 {
         return Ok(());
     }
     Err(Difference::of(
-        "ryb_reason of 1 to 15 and 255".to_owned(),
-        format!("{} texts", texts.len()),
-        "16 texts".to_owned(),
+        "ryb_reason of 1 to 16 and 255".to_owned(),
+        format!("{own} texts of their own"),
+        "17 texts of their own".to_owned(),
     ))
 }
