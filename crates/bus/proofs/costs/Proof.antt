@@ -1,9 +1,11 @@
 -- A price for each core, and the turns of all others. Assumes nothing.
 use mathlib.Core.Path.{_≡_, refl}
 use mathlib.Core.List.{map}
-use Prim.Native.Nat.{_-_, _≤_}
+use Prim.Native.Nat.{ℕ, _*_, _-_, _≤_}
 use borrow.Author.Needs.{needs}
 use native.Mathlib.Nat.{mul-le-mul}
+use mir.Syntax.{w64}
+use mir.Val.{Fits}
 use native.Mathlib.Omega.{arith}
 use Rattle.laws.specs.Idioms.{from, upTo, filled}
 use Rattle.laws.proofs.Places.{place-next}
@@ -31,11 +33,9 @@ loop-again c = (
   λ t e. rw (c .before .before .loop .inv .1 t e, c .price .ensures t e) (place-next (ps 0) (λ r. ps (ifOther t _ r)) 8 (c .before .before .loop .q) (omega arith)),
 )
 
-mul-t16 : tie.Need-mul-t16 Inv-loop μ-loop
-mul-t16 c =
-    let (some, few, high) = c .before .before .before .pre in
-    let others : c .before .before .before .args .cores - 1 ≤ 7 = omega arith in
-    omega (arith, mul-le-mul {n₂ = 7} {m₂ = 65535} others high)
+-- a turn of each of eight cores
+turns-fit : (n s : ℕ) → n ≤ 8 → s ≤ 65535 → Fits w64 (n * s)
+turns-fit n s few short = omega (arith, mul-le-mul few short)
 
 returns : tie.Need-returns Inv-loop μ-loop
 unfolding busPrices busRD
@@ -47,4 +47,4 @@ pub costs-spec : {M : Type 1} → statement M
 costs-spec =
     tie.close
     (tie.spec Inv-loop μ-loop loop-holds (λ c. search needs) (λ c κs. search needs) (λ c. search needs) (λ c. search needs) (λ c. search needs) (λ c. search needs) loop-again
-    (λ c. search needs) mul-t16 returns)
+    (λ c. search needs) (λ c. turns-fit _ _ (omega arith) (c .before .before .before .pre .2)) returns)
