@@ -16,7 +16,7 @@ use Rattle.rules.specs.declared.Rejudged.{Rejudged}
 use Rattle.rules.specs.Order as Order
 use Rattle.rules.specs.Timing as Timing
 use Rattle.rules.specs.Timing.{Row}
-use Rattle.rules.specs.Refusals.{checkTiming, checkBus, boardRefusal, checkBoard, checkTasks, checkTable, checkJudged}
+use Rattle.rules.specs.Refusals.{checkTiming, checkBus, boardRefusal, checkBoard, checkTasks, checkTable, checkJudged, checkStart}
 use Rattle.rules.specs.File.{checkWhole}
 use Rattle.rules.specs.Operations.{checkFile, reading, checkView, viewing, judgeOne, judgeAll}
 use Rattle.rules.specs.Listing.{refusedLine, tableText, listing}
@@ -60,8 +60,10 @@ pub record Promises : Type 0 where
   -- order
   pub worsens : (older newer : Table) → Exact (λ (r : Bool). r ≡ Order.worsens older newer)
   pub difference : (older newer : Table) → Exact (λ (r : Change). r ≡ Difference.difference older newer)
+  -- admit
+  pub admit-table : (t : Table) → Exact (λ (r : Refusal). r ≡ checkJudged t)
+  pub admit-start : (t : Table) (k start : ℕ) → Exact (λ (r : Refusal). r ≡ checkStart t k start)
   -- judge
-  pub gate : (t : Table) → Exact (λ (r : Refusal). r ≡ checkJudged t)
   pub judge-one : (t : Table) (k : ℕ) (start : Picos) → Exact (λ (r : Judged). r ≡ judgeOne t k (start .0))
   pub judge-all : (t : Table) (starts : List Picos) → Exact (λ (r : AllJudged). r ≡ judgeAll t (inPicos starts))
   -- rejudge

@@ -2,9 +2,8 @@
 use mathlib.Core.Path.{_≡_, refl, ap, _∙_}
 use mathlib.Core.Bool.{true, false, cond}
 use mathlib.Core.List.{List}
-use Prim.Native.Nat.{ℕ, _≤_, _<_}
-use native.Mathlib.Omega.{arith}
-use borrow.Author.Tests.{lt-ltb, le-ltb, le-leb, lt-leb, ltb-false, not-false}
+use Prim.Native.Nat.{ℕ, _≤_}
+use borrow.Author.Tests.{ltb-false, not-false}
 use Rattle.rules.specs.declared.Table.{Table}
 use Rattle.rules.specs.declared.Refusal.{Refusal}
 use Rattle.rules.specs.declared.Answer.{Answer}
@@ -24,35 +23,9 @@ use Rattle.rounds.specs.Lent.{noneJudged}
 use Rattle.columns.specs.Numbered.{climbedFor, notJudged}
 use Rattle.rules.specs.Chain.{accepted, refused, isAccepted, _orElse_, given}
 
--- ---- one task: 5 to 13
+-- ---- one task
 
-module _ (t : Table) (k start : ℕ) where
-  pub start-table : isAccepted (checkJudged t) ≡ false → checkJudged t ≡ checkStart t k start
-  unfolding checkStart
-  start-table h = simp h
-
-  module _ (table : isAccepted (checkJudged t) ≡ true) where
-    start-asked : askedFault t k ≡ true → refused 12 0 ≡ checkStart t k start
-    unfolding checkStart
-    start-asked e = simp (table, e)
-
-    pub start-low : k ≡ 0 → refused 12 0 ≡ checkStart t k start
-    unfolding askedFault
-    start-low e = start-asked (rw (lt-leb 1 k (omega arith)))
-
-    pub start-high : t .tasks < k → refused 12 0 ≡ checkStart t k start
-    unfolding askedFault
-    start-high h = start-asked (rw (le-leb 1 k (omega arith), lt-leb k (t .tasks) h))
-
-    pub start-late : 1 ≤ k → k ≤ t .tasks → latest (taskOf t k) < start → refused 13 k ≡ checkStart t k start
-    unfolding checkStart askedFault lateStart
-    start-late low high h = simp (table, le-leb 1 k low, le-leb k (t .tasks) high, lt-ltb (latest (taskOf t k)) start h)
-
-    pub start-passes : 1 ≤ k → k ≤ t .tasks → start ≤ latest (taskOf t k) → accepted ≡ checkStart t k start
-    unfolding checkStart askedFault lateStart
-    start-passes low high h = simp (table, le-leb 1 k low, le-leb k (t .tasks) high, le-ltb (latest (taskOf t k)) start h)
-
--- what passes has an accepted table, a task of it, and a start that is not late
+-- what is not refused before the rounds has an accepted table, a task of it, and a start that is not late
 module _ (t : Table) (k start : ℕ) (passed : isAccepted (checkStart t k start) ≡ true) where
   start-links : (isAccepted (checkJudged t orElse given 12 0 (askedFault t k)) ≡ true) × (isAccepted (given 13 k (lateStart t k start)) ≡ true)
   unfolding checkStart
@@ -72,7 +45,7 @@ module _ (t : Table) (k start : ℕ) (passed : isAccepted (checkStart t k start)
   unfolding lateStart
   start-fits = ltb-false (latest (taskOf t k)) start (no-fault 12 k (lateStart t k start) (start-links .1))
 
--- ---- one task: 14, or the answer
+-- 14, or the answer
 
 module _ (t : Table) (k start : ℕ) where
   one-is : checkOne t k start ≡ checkStart t k start orElse given 14 k (highStart t k start)

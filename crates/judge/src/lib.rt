@@ -1,6 +1,5 @@
-// Judgement of one task and of all: the refusals in their order, then the rounds.
+// Judgement of one task and of all: what is refused before them, then the rounds.
 ghost use mathlib.Core.Path.{_≡_};
-ghost use Rattle.rules.specs.Refusals.{checkJudged, checkStart};
 ghost use Rattle.rules.specs.Operations.{judgeOne, judgeAll};
 ghost use Rattle.columns.specs.Numbered.{notJudged};
 ghost use Rattle.judge.specs.Starts.{inPicos};
@@ -19,40 +18,11 @@ fn not_judged(refusal: Refusal) -> Judged
     Judged { refusal, answer }
 }
 
-// The checks before a judgement.
-pub fn gate(table: Table) -> Refusal
-    ensures { λ r. ⌜ r ≡ checkJudged table ⌝ }
-{
-    checks::check(table)
-}
-
-// Refusals 5 to 13 of a judgement of one task.
-fn check_start(table: Table, k: u8, start: u64) -> Refusal
-    ensures { λ r. ⌜ r ≡ checkStart table k start ⌝ }
-{
-    let refusal = gate(table);
-    if refusal.number != 0 {
-        return refusal;
-    }
-    if k == 0 {
-        return refused(12, 0);
-    }
-    if table.tasks < k {
-        return refused(12, 0);
-    }
-    let i = (k as usize) - 1;
-    let task = table.task[i];
-    if climb::latest(task) < start {
-        return refused(13, k);
-    }
-    refused(0, 0)
-}
-
-// RULES 6.3, of one task: refusals 5 to 14, or the answer.
+// RULES 6.3, of one task: refusals 5 to 14 and 16, or the answer.
 pub fn judge_one(table: Table, k: u8, start: Picos) -> Judged
     ensures { λ r. ⌜ r ≡ judgeOne table k (start .0) ⌝ }
 {
-    let refusal = check_start(table, k, start.0);
+    let refusal = admit::start(table, k, start.0);
     if refusal.number != 0 {
         return not_judged(refusal);
     }
@@ -84,7 +54,7 @@ fn numbers(starts: [Picos; 32]) -> [u64; 32]
 pub fn judge_all(table: Table, starts: [Picos; 32]) -> AllJudged
     ensures { λ r. ⌜ r ≡ judgeAll table (inPicos starts) ⌝ }
 {
-    let refusal = gate(table);
+    let refusal = admit::table(table);
     if refusal.number != 0 {
         return rounds::none_judged(refusal);
     }

@@ -23,11 +23,11 @@ fn not_rejudged(refusal: Refusal, faulty: Faulty) -> Rejudged
 pub fn judge_carried(older: Table, newer: Table) -> Rejudged
     ensures { λ r. ⌜ Carried older newer r ⌝ }
 {
-    let was = judge::gate(older);
+    let was = admit::table(older);
     if was.number != 0 {
         return not_rejudged(was, Faulty::Older);
     }
-    let is = judge::gate(newer);
+    let is = admit::table(newer);
     if is.number != 0 {
         return not_rejudged(is, Faulty::Newer);
     }

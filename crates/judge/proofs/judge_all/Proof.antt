@@ -13,7 +13,7 @@ use Rattle.judge.proofs.judge_all.Tie as tie
 returns : tie.Need-returns
 returns c =
     let a = c .before .before .before .before .args in
-    let e = c .before .before .before .gate .ensures in
+    let e = c .before .before .before .table .ensures in
     c .none-judged .ensures ∙ ap noneJudged e ∙ all-table (a .table) (inPicos (a .starts)) (refuses e (c .before .if1 .taken))
 
 pub judge-all-spec : {M : Type 1} → statement M
@@ -21,4 +21,4 @@ judge-all-spec =
     tie.close
     (tie.spec (λ c κs. search needs) (λ c κs. search needs) returns
     (λ c κs. search needs)
-    (λ c κs. judged-accepted _ (passes (c .before .before .before .gate .ensures) (c .before .if1 .left))) (λ c. c .judge-tasks .ensures ∙ ap (judgeAll _) (c .before .numbers .ensures)))
+    (λ c κs. judged-accepted _ (passes (c .before .before .before .table .ensures) (c .before .if1 .left))) (λ c. c .judge-tasks .ensures ∙ ap (judgeAll _) (c .before .numbers .ensures)))

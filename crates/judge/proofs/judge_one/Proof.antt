@@ -13,12 +13,12 @@ use Rattle.judge.proofs.judge_one.Tie as tie
 
 -- past refusals 5 to 13
 start-passes : (c : tie.Else1) → isAccepted (checkStart (c .before .before .before .args .table) (c .before .before .before .args .k) (c .before .before .before .args .start .0)) ≡ true
-start-passes c = passes (c .before .before .check-start .ensures) (c .if1 .left)
+start-passes c = passes (c .before .before .start .ensures) (c .if1 .left)
 
 returns : tie.Need-returns
 returns c =
     let a = c .before .before .before .before .args in
-    let e = c .before .before .before .check-start .ensures in
+    let e = c .before .before .before .start .ensures in
     c .not-judged .ensures ∙ ap notJudged e ∙ one-start (a .table) (a .k) (a .start .0) (refuses e (c .before .if1 .taken))
 
 judge-task-requires : tie.Need-judge-task-requires

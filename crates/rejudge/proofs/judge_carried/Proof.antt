@@ -15,22 +15,22 @@ use Rattle.rejudge.proofs.judge_carried.Tie as tie
 
 -- past the older table's refusals, and past the newer's
 older-passes : (c : tie.Else1) → isAccepted (checkJudged (c .before .before .before .args .older)) ≡ true
-older-passes c = passes (c .before .before .gate .ensures) (c .if1 .left)
+older-passes c = passes (c .before .before .table .ensures) (c .if1 .left)
 
 newer-passes : (c : tie.Else2) → isAccepted (checkJudged (c .before .before .before .before .before .before .args .newer)) ≡ true
-newer-passes c = passes (c .before .before .gate2 .ensures) (c .if2 .left)
+newer-passes c = passes (c .before .before .table2 .ensures) (c .if2 .left)
 
 returns : tie.Need-returns
 returns c =
     let a = c .before .before .before .before .args in
-    let e = c .before .before .before .gate .ensures in
+    let e = c .before .before .before .table .ensures in
     carried-promise (a .older) (a .newer)
     (c .not-rejudged .ensures ∙ ap (λ (r : Refusal). notRejudged r Older) e ∙ again-older (a .older) (a .newer) (refuses e (c .before .if1 .taken)))
 
 returns-2 : tie.Need-returns-2
 returns-2 c =
     let a = c .before .before .before .before .before .before .before .args in
-    let e = c .before .before .before .gate2 .ensures in
+    let e = c .before .before .before .table2 .ensures in
     carried-promise (a .older) (a .newer)
     (c .not-rejudged2 .ensures ∙ ap (λ (r : Refusal). notRejudged r Newer) e ∙ again-newer (a .older) (a .newer) (older-passes (c .before .before .before .before)) (refuses e (c .before .if2 .taken)))
 
@@ -41,7 +41,7 @@ answers-after-requires c κs =
 returns-3 : tie.Need-returns-3
 returns-3 c =
     let a = c .before .before .before .before .before .before .before .before .args in
-    let is = c .before .before .before .before .gate2 .ensures in
+    let is = c .before .before .before .before .table2 .ensures in
     carried-promise (a .older) (a .newer)
     (again-judged (a .older) (a .newer) (older-passes (c .before .before .before .before .before)) (newer-passes (c .before .before)) is (c .before .worsens .ensures) (c .answers-after .ensures))
 

@@ -1,4 +1,4 @@
--- Refusals 5 to 13 of a judgement of one task, in their order. Assumes nothing.
+-- The refusals before a judgement of one task, in their order. Assumes nothing.
 use borrow.Author.Needs.{needs}
 use mathlib.Core.Path.{_≡_, _∙_}
 use mathlib.Core.Bool.{true}
@@ -8,18 +8,18 @@ use Rattle.rules.specs.Refusals.{checkJudged}
 use Rattle.facts.proofs.Accepted.{sound}
 use Rattle.facts.proofs.Starts.{judged-accepted}
 use Rattle.facts.proofs.Chain.{passes, refuses}
-use Rattle.judge.proofs.Links.{start-table, start-low, start-high, start-late, start-passes}
-use Rattle.judge.proofs.check_start.Statement.{statement}
-use Rattle.judge.proofs.check_start.Tie as tie
+use Rattle.admit.proofs.Links.{start-table, start-low, start-high, start-late, start-passes}
+use Rattle.admit.proofs.start.Statement.{statement}
+use Rattle.admit.proofs.start.Tie as tie
 
 -- past the table's own refusals
 table-passes : (c : tie.Else1) → isAccepted (checkJudged (c .before .before .before .args .t1)) ≡ true
-table-passes c = passes (c .before .before .gate .ensures) (c .if1 .left)
+table-passes c = passes (c .before .before .table .ensures) (c .if1 .left)
 
 returns : tie.Need-returns
 returns c =
     let a = c .before .before .before .args in
-    let e = c .before .before .gate .ensures in
+    let e = c .before .before .table .ensures in
     e ∙ start-table (a .t1) (a .k) (a .start) (refuses e (c .if1 .taken))
 
 returns-2 : tie.Need-returns-2
@@ -41,8 +41,8 @@ returns-5 c =
     let a = c .before .before .before .before .before .before .before .before .before .args in
     c .refused4 .ensures ∙ start-passes (a .t1) (a .k) (a .start) (table-passes (c .before .before .before .before .before .before)) (search needs) (search needs) (omega (arith, c .before .before .latest .ensures))
 
-pub check-start-spec : {M : Type 1} → statement M
-check-start-spec =
+pub start-spec : {M : Type 1} → statement M
+start-spec =
     tie.close
     (tie.spec (λ c κs. search needs) returns (λ c κs. search needs) returns-2 (λ c κs. search needs) returns-3 (λ c. search needs) (λ c. search needs)
     element-copy-out-task (λ c κs. search needs) (λ c κs. search needs) returns-4 (λ c κs. search needs) returns-5)

@@ -1,0 +1,35 @@
+// What a judgement of a table that is passed directly meets before any round.
+ghost use mathlib.Core.Path.{_≡_};
+ghost use Rattle.rules.specs.Refusals.{checkJudged, checkStart};
+use rules::Refusal;
+use rules::Table;
+use rules::refused;
+
+// The checks before every judgement.
+pub fn table(t: Table) -> Refusal
+    ensures { λ r. ⌜ r ≡ checkJudged t ⌝ }
+{
+    checks::check(t)
+}
+
+// Those before a judgement of one task: then 12 and 13.
+pub fn start(t: Table, k: u8, start: u64) -> Refusal
+    ensures { λ r. ⌜ r ≡ checkStart t k start ⌝ }
+{
+    let refusal = table(t);
+    if refusal.number != 0 {
+        return refusal;
+    }
+    if k == 0 {
+        return refused(12, 0);
+    }
+    if t.tasks < k {
+        return refused(12, 0);
+    }
+    let i = (k as usize) - 1;
+    let task = t.task[i];
+    if climb::latest(task) < start {
+        return refused(13, k);
+    }
+    refused(0, 0)
+}
