@@ -1,7 +1,7 @@
 // The rounds of F, of plain terms.
 ghost use mathlib.Core.Path.{_≡_};
 ghost use Rattle.rules.specs.Tasks as Tasks;
-ghost use Rattle.counts.specs.Counts.{Small};
+ghost use Rattle.releases.specs.Releases.{Small};
 ghost use Rattle.terms.specs.Terms.{termsOf};
 ghost use Rattle.climb.specs.Run.{Ready, lowestOf, climbed, endedAs};
 use rules::Answer;

@@ -118,7 +118,7 @@ pub fn judge_task(table: Table, k: u8, start: u64) -> Climbed
         &mut costs,
         &mut asks,
     );
-    let invs = counts::inverses(board.tasks, &spans);
+    let invs = releases::inverses(board.tasks, &spans);
     let i = (k as usize) - 1;
     let p = (core[i] as usize) - 1;
     let first = from[p];

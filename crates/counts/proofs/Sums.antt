@@ -7,7 +7,8 @@ use native.Mathlib.Numerals.{add-one}
 use native.Mathlib.Omega.{arith}
 use lib.ListN.{getD}
 use Rattle.laws.specs.Idioms.{_/↑_}
-use Rattle.counts.specs.Counts.{sumBelow, sumFrom, released, askedBy, Summed, Counted, Slots}
+use Rattle.releases.specs.Releases.{Counted}
+use Rattle.counts.specs.Counts.{sumBelow, sumFrom, released, askedBy, Summed, Slots}
 
 pub below-next : (f : ℕ → ℕ) (n : ℕ) → sumBelow f (n + 1) ≡ sumBelow f n + f n
 unfolding sumBelow

@@ -1,4 +1,4 @@
--- How many periods begin in a time, and what the tasks in places of plain lists ask for. Assumes nothing.
+-- What the tasks in places of plain lists ask for in a time. Assumes nothing.
 use Prim.Native.Nat.{ℕ, zero, suc, _+_, _*_, _-_, _≤_, _<_, _^_}
 use mathlib.Core.Path.{_≡_}
 use mathlib.Core.List.{List}
@@ -24,15 +24,6 @@ askedBy carried t a e periods costs = sumFrom (released carried t periods costs)
 pub record Summed (highest carried t a e : ℕ) (periods costs : List ℕ) (r : ℕ) : Type 0 where
   pub is : r ≡ askedBy carried t a e periods costs
   pub high : r ≤ (e - a) * (10001 * highest)
-
--- a count, which is small
-pub record Counted (t period r : ℕ) : Type 0 where
-  pub is : r ≡ t /↑ period
-  pub high : r ≤ 10000
-
--- no inverse is too large
-pub record Small (invs : List ℕ) : Type 0 where
-  pub each : (i : ℕ) → getD invs i 0 ≤ 2882303762
 
 -- in places a to e, at most 32, stand periods of accepted tasks, and costs up to a highest
 pub record Slots (highest a e : ℕ) (periods costs : List ℕ) : Type 0 where

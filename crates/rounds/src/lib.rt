@@ -117,7 +117,7 @@ pub fn judge_lent(
     let mut answers = no_answers();
     let mut refusal = late(board.tasks, latest, starts);
     let mut end = unless_refused(refusal, board.tasks);
-    let invs = counts::inverses(board.tasks, spans);
+    let invs = releases::inverses(board.tasks, spans);
     let mut next = *from;
     let mut i: usize = 0;
     while i < end {

@@ -1,7 +1,8 @@
 // F without overflow, of plain terms: the tasks of all cores, core after core.
 ghost use mathlib.Core.Path.{_≡_};
 ghost use Prim.Native.Nat.{_*_, _^_, _≤_, min};
-ghost use Rattle.counts.specs.Counts.{Small, Slots};
+ghost use Rattle.releases.specs.Releases.{Small};
+ghost use Rattle.counts.specs.Counts.{Slots};
 ghost use Rattle.terms.specs.Terms.{Charged, Groups, Delayed, Fair, termsOf, applied};
 use rules::Delay;
 use rules::Picos;

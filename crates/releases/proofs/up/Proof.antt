@@ -5,10 +5,10 @@ use Prim.Native.Nat.{ℕ, _≤_, _*_, _/_, _^_}
 use native.Mathlib.Nat.{mul-le-mul}
 use native.Mathlib.Omega.{arith}
 use Rattle.laws.specs.Idioms.{_/↑_}
-use Rattle.counts.specs.Counts.{Counted}
-use Rattle.counts.proofs.Quotients.{up-high, guessed, guess-product, guess-high}
-use Rattle.counts.proofs.up.Statement.{statement}
-use Rattle.counts.proofs.up.Tie as tie
+use Rattle.releases.specs.Releases.{Counted}
+use Rattle.releases.proofs.Quotients.{up-high, guessed, guess-product, guess-high}
+use Rattle.releases.proofs.up.Statement.{statement}
+use Rattle.releases.proofs.up.Tie as tie
 
 product-high : (c : tie.Start) → c .args .t / 256 * c .args .inv ≤ 3906250000 * 2882303762
 product-high c = guess-product (c .args .t) (c .args .inv) (c .pre .0 .0) (c .pre .1)

@@ -2,8 +2,8 @@
 use borrow.Author.Needs.{needs}
 use native.Mathlib.Nat.{div-lt-iff-lt-mul}
 use native.Mathlib.Omega.{arith}
-use Rattle.counts.proofs.inverse.Statement.{statement}
-use Rattle.counts.proofs.inverse.Tie as tie
+use Rattle.releases.proofs.inverse.Statement.{statement}
+use Rattle.releases.proofs.inverse.Tie as tie
 
 pub inverse-spec : {M : Type 1} → statement M
 inverse-spec =

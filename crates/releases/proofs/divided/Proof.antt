@@ -1,9 +1,9 @@
 -- A count of releases, which is small. Assumes nothing.
 use borrow.Author.Needs.{needs}
 use native.Mathlib.Omega.{arith}
-use Rattle.counts.proofs.Quotients.{up-high}
-use Rattle.counts.proofs.divided.Statement.{statement}
-use Rattle.counts.proofs.divided.Tie as tie
+use Rattle.releases.proofs.Quotients.{up-high}
+use Rattle.releases.proofs.divided.Statement.{statement}
+use Rattle.releases.proofs.divided.Tie as tie
 
 pub divided-spec : {M : Type 1} → statement M
 divided-spec =

@@ -8,7 +8,7 @@ use lib.ListN.{getD, set, replicate}
 use Rattle.laws.specs.Idioms.{_/↑_}
 use Rattle.laws.proofs.Fill.{set-keeps}
 use Rattle.laws.proofs.Filled.{only-default}
-use Rattle.counts.specs.Counts.{Small}
+use Rattle.releases.specs.Releases.{Small}
 
 -- a/b rounded up is at most m where a is at most m times b
 pub up-high : (a b m : ℕ) → 0 < b → a ≤ m * b → a /↑ b ≤ m

@@ -1,10 +1,10 @@
 -- An inverse for each period. Assumes nothing.
 use borrow.Author.Needs.{needs}
 use Prim.Native.Nat.{_≤_, _-_}
-use Rattle.counts.specs.Counts.{Small}
-use Rattle.counts.proofs.Quotients.{small-none, small-next}
-use Rattle.counts.proofs.inverses.Statement.{statement}
-use Rattle.counts.proofs.inverses.Tie as tie
+use Rattle.releases.specs.Releases.{Small}
+use Rattle.releases.proofs.Quotients.{small-none, small-next}
+use Rattle.releases.proofs.inverses.Statement.{statement}
+use Rattle.releases.proofs.inverses.Tie as tie
 
 abbrev Inv-loop : tie.InvT-loop
 Inv-loop n periods out₀ i₀ out i = (i ≤ n) × Small out

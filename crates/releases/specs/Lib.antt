@@ -1,0 +1,2 @@
+-- What the contracts about releases cite.
+pub mod Releases
