@@ -14,6 +14,7 @@
 --     Refused    what a refused operation gives
 --     Point2     what a verdict says
 --     Point3     a newer table judged from the older one's bounds
+--     AnyMemory  points 2 and 3 over any memory
 --     Sets       the sets of a bus table have no effect
 pub mod ByteSums
 pub mod Codes
@@ -29,4 +30,5 @@ pub mod Files
 pub mod Refused
 pub mod Point2
 pub mod Point3
+pub mod AnyMemory
 pub mod Sets

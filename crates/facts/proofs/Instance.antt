@@ -5,12 +5,12 @@ use mathlib.Core.Logic.{_⊎_, inl, inr}
 use mathlib.Core.List.{List, [], _∷_, map, List·Memᴰ, List·Memᴰ·append-cases}
 use Prim.Native.Nat.{ℕ, _-_, _≤_}
 use native.Mathlib.Omega.{arith}
-use Rattle.equation.specs.Equation.{Equation, Steps, renewals, most-rounds}
+use Rattle.equation.specs.Equation.{Equation, renewals, most-rounds}
 use Rattle.rules.specs.declared.Task.{Task}
 use Rattle.rules.specs.declared.Table.{Table}
 use Rattle.rules.specs.Tasks.{T, releases, latest, taskOf, coreOf, higher, elsewhere}
 use Rattle.rules.specs.Board.{memoryOf}
-use Rattle.facts.specs.Steady.{Slower}
+use Rattle.facts.specs.Steady.{Slower, countsIn, caseOf, Fit, Worse}
 use Rattle.rules.specs.Response.{F}
 use Rattle.rules.specs.Judgement.{lowest}
 use Rattle.rules.specs.Others.{others, roundLimit}
@@ -24,13 +24,9 @@ use Rattle.facts.proofs.SoundTasks.{sound-higher, sound-elsewhere}
 use Rattle.laws.specs.Idioms.{sumOver}
 use Rattle.laws.proofs.Paired.{paired-map}
 use Rattle.facts.proofs.Kept.{Kept, kept-no-more, kept, kept-higher}
-use Rattle.facts.proofs.Memory.{response-equation, response-steps, response-worse}
+use Rattle.facts.proofs.Cases.{case-equation}
 use Rattle.facts.proofs.Boards.{memory-steady, memory-slower}
 use Rattle.facts.proofs.Worsened.{worsened}
-
--- the counts through which F looks at the time
-abbrev pub countsOf : Table → ℕ → List (ℕ → ℕ)
-countsOf t k = map releases (others t k)
 
 module _ (t : Table) (accepted : isAccepted (checkTable t) ≡ true) (k : ℕ) (low : 1 ≤ k) (high : k ≤ t .tasks) where
   own-sound : SoundTask (t .cores) (taskOf t k)
@@ -43,15 +39,16 @@ module _ (t : Table) (accepted : isAccepted (checkTable t) ≡ true) (k : ℕ) (
       go (inl m) = omega (arith, sound-higher t (sound t accepted) k high m .T-in .low)
       go (inr m) = omega (arith, sound-elsewhere t (sound t accepted) (coreOf t k) m .T-in .low)
 
+  pub case-fit : Fit (caseOf t k)
+  case-fit = record {
+    steady = memory-steady t (sound t accepted) (coreOf t k);
+    exec = own-sound .C-in .low;
+    periods = period-some;
+  }
+
   pub equation-of : Equation (F t k) (lowest t k)
   unfolding F lowest
-  equation-of =
-      response-equation (memory-steady t (sound t accepted) (coreOf t k)) (taskOf t k) (higher t k) (own-sound .C-in .low)
-
-  pub steps-of : Steps (F t k) (countsOf t k)
-  unfolding F
-  steps-of =
-      response-steps (memory-steady t (sound t accepted) (coreOf t k)) (taskOf t k) (higher t k) period-some
+  equation-of = case-equation (caseOf t k) case-fit
 
   pub lowest-fits : lowest t k ≤ latest (taskOf t k)
   unfolding lowest latest
@@ -63,7 +60,7 @@ unfolding renewals
 renewals-of d [] = refl
 renewals-of d (j ∷ js) = omega (arith, renewals-of d js)
 
-pub limit-of : (t : Table) (k : ℕ) → most-rounds (latest (taskOf t k)) (countsOf t k) ≡ roundLimit t k
+pub limit-of : (t : Table) (k : ℕ) → most-rounds (latest (taskOf t k)) (countsIn (caseOf t k)) ≡ roundLimit t k
 limit-of t k = omega (arith, renewals-of (latest (taskOf t k)) (others t k))
 
 -- a newer table that is the older one worsened
@@ -81,15 +78,14 @@ module _ (older newer : Table) (was : isAccepted (checkTable older) ≡ true) (i
       rw (← own-kept .raised .core)
       (memory-slower older newer (sound older was) (sound newer is) facts (coreOf older k) (core .low) (core .high))
 
-  pub not-lower : (x : ℕ) → F older k x ≤ F newer k x
-  unfolding F
-  not-lower x =
-      response-worse own-slower (kept-no-more x (taskOf older k) (taskOf newer k) own-kept)
-      (paired-map (kept-no-more x) (kept-higher older newer (sound older was) (sound newer is) facts k low high))
-
-  pub latest-stays : latest (taskOf older k) ≡ latest (taskOf newer k)
+  pub case-worse : Worse (caseOf older k) (caseOf newer k)
   unfolding latest
-  latest-stays = own-kept .raised .deadline
+  case-worse = record {
+    memory = own-slower;
+    own = λ x. kept-no-more x (taskOf older k) (taskOf newer k) own-kept;
+    others = λ x. paired-map (kept-no-more x) (kept-higher older newer (sound older was) (sound newer is) facts k low high);
+    latest = own-kept .raised .deadline;
+  }
 
   pub number-stays : k ≤ newer .tasks
   number-stays = omega (arith, facts .board .tasks)

@@ -12,7 +12,8 @@ use Rattle.facts.specs.Sound.{SoundTask, Sound}
 use Rattle.facts.specs.Worsened.{Raised, Worsened}
 use Rattle.facts.proofs.SoundTasks.{task-at, tasks-there}
 use Rattle.facts.proofs.Releases.{releases-shorter}
-use Rattle.laws.proofs.Paired.{Paired, paired-take, paired-those}
+use Rattle.laws.specs.Pairs.{Paired}
+use Rattle.laws.proofs.Paired.{paired-take, paired-those}
 
 -- an older and a newer task of one number
 pub record Kept (cores : ℕ) (i j : Task) : Type 0 where

@@ -9,6 +9,7 @@
 --     Priced      the job delay at any prices
 --     Releases    the releases of a task are a count
 --     Memory      the response equation over any steady memory
+--     Cases       points 2 and 3 of a task over any memory
 --     Worsened    the test of a table worsened, taken apart
 --     Alike       boards alike in their used places
 --     Kept        the tasks of such tables, number by number
@@ -31,6 +32,7 @@ pub mod Weights
 pub mod Releases
 pub mod Priced
 pub mod Memory
+pub mod Cases
 pub mod Worsened
 pub mod Alike
 pub mod Kept

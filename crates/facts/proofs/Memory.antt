@@ -13,7 +13,8 @@ use Rattle.facts.specs.Steady.{Steady, Slower, NoMore}
 use Rattle.rules.specs.Response.{preemption, request, job, delay, response}
 use Rattle.facts.proofs.Releases.{releases-rise, releases-count}
 use Rattle.laws.specs.Idioms.{sumOver}
-use Rattle.laws.proofs.Paired.{Paired, paired-self, sum-paired}
+use Rattle.laws.specs.Pairs.{Paired}
+use Rattle.laws.proofs.Paired.{paired-self, sum-paired}
 
 -- ---- one comparison, of which all else is a case: the tasks in t ask for no more than those in u
 

@@ -6,7 +6,6 @@ use native.Mathlib.Omega.{arith}
 use Rattle.equation.specs.Outcome as outcome
 use Rattle.equation.specs.Start.{FromStart}
 use Rattle.equation.specs.Carry.{carried, Carries}
-use Rattle.equation.proofs.Points.{point-two, from-start, point-three}
 use Rattle.rules.specs.declared.Table.{Table}
 use Rattle.rules.specs.declared.Delay.{Delay}
 use Rattle.rules.specs.Tasks.{latest, taskOf}
@@ -18,22 +17,21 @@ use Rattle.rules.specs.Chain.{isAccepted}
 use Rattle.rules.specs.Refusals.{checkTable, checkJudged}
 use Rattle.rules.specs.Operations.{olderBound}
 use Rattle.facts.proofs.Starts.{Judgeable, judged-accepted}
-use Rattle.facts.proofs.Instance.{countsOf, equation-of, steps-of, limit-of, not-lower, latest-stays, number-stays}
+use Rattle.facts.specs.Steady.{countsIn, caseOf}
+use Rattle.facts.proofs.Cases.{case-fresh, case-start, case-carried}
+use Rattle.facts.proofs.Instance.{case-fit, limit-of, case-worse, number-stays}
 
 module _ (t : Table) (accepted : isAccepted (checkTable t) ≡ true) (k : ℕ) (low : 1 ≤ k) (high : k ≤ t .tasks) where
   -- point 2: the verdict from a fresh start is the least solution from 1 to D, or that there is none
   pub fresh-right : outcome.Correct (F t k) 1 (latest (taskOf t k)) (roundsOf t k 0 .verdict)
-  unfolding roundsOf
-  fresh-right = point-two (equation-of t accepted k low high) .0
+  unfolding roundsOf F lowest
+  fresh-right = case-fresh (caseOf t k) (case-fit t accepted k low high)
 
 -- from a start that is not refused: the least solution at or above it, in the rounds of the equation, at most so many
 module _ (t : Table) (k start : ℕ) (j : Judgeable t k start) where
-  pub start-right : FromStart (F t k) (lowest t k) (latest (taskOf t k)) (countsOf t k) start
-  start-right =
-      from-start
-      (equation-of t (judged-accepted t (j .judged)) k (j .number .low) (j .number .high))
-      (steps-of t (judged-accepted t (j .judged)) k (j .number .low) (j .number .high))
-      (j .allowed)
+  pub start-right : FromStart (F t k) (lowest t k) (latest (taskOf t k)) (countsIn (caseOf t k)) start
+  unfolding F lowest
+  start-right = case-start (caseOf t k) (case-fit t (judged-accepted t (j .judged)) k (j .number .low) (j .number .high)) start (j .allowed)
 
   pub start-limit : roundsOf t k start .rounds ≤ roundLimit t k
   unfolding roundsOf
@@ -51,17 +49,14 @@ older-bound t k = bound-carried (decider t k) (roundsOf t k 0 .verdict)
 -- point 3: from the older table's bound
 module _ (older newer : Table) (was : isAccepted (checkTable older) ≡ true) (is : isAccepted (checkTable newer) ≡ true)
     (worse : worsens older newer ≡ true) (k : ℕ) (low : 1 ≤ k) (high : k ≤ older .tasks) where
-  pub carries : Carries (F newer k) (lowest newer k) (latest (taskOf newer k)) (countsOf newer k) (olderBound older k)
+  pub carries : Carries (F newer k) (lowest newer k) (latest (taskOf newer k)) (countsIn (caseOf newer k)) (olderBound older k)
+  unfolding F lowest roundsOf
   carries =
-      let stays = latest-stays older newer was is worse k low high in
-      let high′ = number-stays older newer was is worse k low high in
       rw (older-bound older k)
-      (point-three
-      (equation-of older was k low high)
-      (equation-of newer is k low high′)
-      (steps-of newer is k low high′)
-      (not-lower older newer was is worse k low high)
-      (rw stays at (fresh-right older was k low high)))
+      (case-carried (caseOf older k) (caseOf newer k)
+      (case-fit older was k low high)
+      (case-fit newer is k low (number-stays older newer was is worse k low high))
+      (case-worse older newer was is worse k low high))
 
   -- the start is not refused
   pub carried-judgeable : Judgeable newer k (olderBound older k)

@@ -9,7 +9,8 @@ use native.Mathlib.Nat.{le-refl, le-of-eq, le-antisymm, mul-comm, mul-le-mul}
 use borrow.Author.Tests.{eqb-true}
 use Rattle.laws.specs.Idioms.{sumOver, upTo}
 use Rattle.laws.proofs.Linear.{sum-same, sum-times, sum-those, sum-swap, sum-only}
-use Rattle.laws.proofs.Paired.{Paired, paired-self, sum-paired}
+use Rattle.laws.specs.Pairs.{Paired}
+use Rattle.laws.proofs.Paired.{paired-self, sum-paired}
 use Rattle.rules.specs.declared.Task.{Task}
 use Rattle.rules.specs.declared.Table.{Table}
 use Rattle.rules.specs.Tasks.{C, H, releases, tasksOf, isOn, tasksOn, elsewhere, arrivals}

@@ -1,4 +1,4 @@
--- Two lists whose members stand in a relation, place by place. Assumes nothing.
+-- Laws of two lists whose members stand in a relation, place by place. Assumes nothing.
 use mathlib.Core.Path.{_≡_, refl}
 use mathlib.Core.Bool.{Bool, true, false, cond}
 use mathlib.Core.List.{List, [], _∷_, List·Memᴰ, List·Memᴰ·head, List·Memᴰ·tail}
@@ -7,10 +7,7 @@ use native.Mathlib.Omega.{arith}
 use native.Mathlib.Nat.{le-of-suc-le-suc}
 use lib.ListN.{length, take, getD}
 use Rattle.laws.specs.Idioms.{sumOver, those}
-
-pub data Paired {A : Type 0} (R : A → A → Type 0) : List A → List A → Type 0 where
-  none : Paired R [] []
-  next : {x y : A} {xs ys : List A} → R x y → Paired R xs ys → Paired R (x ∷ xs) (y ∷ ys)
+use Rattle.laws.specs.Pairs.{Paired, none, next}
 
 module _ {A : Type 0} where
   -- a list with itself
