@@ -14,7 +14,6 @@ use lines::put_part;
 use lines::refused;
 use rules::AllJudged;
 use rules::Judged;
-use rules::Picos;
 use rules::Refusal;
 use rules::Rejudged;
 use rules::Table;
@@ -74,9 +73,9 @@ fn at_most(n: usize, most: usize) -> usize
 
 // A table to the first bytes of a room, as many as the payload says, or to all of it where that is shorter.
 fn write_raw(payload: &[u8], room: &mut [u8]) -> Written {
-    let all = raw::padded(payload);
-    let n = at_most(bytes::le16(&all, 0) as usize, room.len());
-    writer::write(raw::table(&all, 2), &mut room[..n])
+    let asked = raw::byte(payload, 0) as usize + 256 * raw::byte(payload, 1) as usize;
+    let n = at_most(asked, room.len());
+    writer::write(raw::table(payload, 2), &mut room[..n])
 }
 
 fn put_written(out: &mut [u8], written: Written) -> usize {
@@ -106,9 +105,9 @@ fn put_one(out: &mut [u8], judged: Judged) -> usize {
 
 // J: one task from a start.
 fn judge_one(payload: &[u8], out: &mut [u8]) -> usize {
-    let all = raw::padded(payload);
-    let start = Picos(bytes::le64(&all, 1));
-    put_one(out, judge::judge_one(raw::table(&all, 9), all[0], start))
+    let k = raw::byte(payload, 0);
+    let start = raw::start(payload, 1);
+    put_one(out, judge::judge_one(raw::table(payload, 9), k, start))
 }
 
 // The refusal, or else a word.
@@ -128,9 +127,8 @@ fn put_all(out: &mut [u8], judged: AllJudged) -> usize {
 
 // A: all tasks.
 fn judge_all(payload: &[u8], out: &mut [u8]) -> usize {
-    let all = raw::padded(payload);
-    let table = raw::table(&all, 256);
-    put_all(out, judge::judge_all(table, raw::starts(&all)))
+    let table = raw::table(payload, 256);
+    put_all(out, judge::judge_all(table, raw::starts(payload)))
 }
 
 fn put_again(out: &mut [u8], again: Rejudged) -> usize {
@@ -141,24 +139,17 @@ fn put_again(out: &mut [u8], again: Rejudged) -> usize {
     put_fields(out, end, answers)
 }
 
-// A raw table at a place of a payload.
-fn table_from(payload: &[u8], at: usize) -> Table {
-    let all = raw::padded(raw::from(payload, at));
-    raw::table(&all, 0)
-}
-
 // K: a newer table after an older one.
 fn judge_again(payload: &[u8], out: &mut [u8]) -> usize {
-    let older = table_from(payload, 0);
-    let newer = table_from(payload, 1242);
+    let older = raw::table(payload, 0);
+    let newer = raw::table(payload, 1242);
     put_again(out, rejudge::judge_carried(older, newer))
 }
 
 // T: a table passed directly, judged and listed.
 fn list_raw(payload: &[u8], out: &mut [u8]) -> usize {
-    let all = raw::padded(payload);
-    let table = raw::table(&all, 256);
-    let judged = judge::judge_all(table, raw::starts(&all));
+    let table = raw::table(payload, 256);
+    let judged = judge::judge_all(table, raw::starts(payload));
     let answers = judged.answers;
     listing::lines(table, answers, out)
 }

@@ -14,11 +14,11 @@ pub fn from(s: &[u8], at: usize) -> &[u8] {
     if at <= s.len() { &s[at..] } else { &s[..0] }
 }
 
-// A payload that has a raw table in it, with 0 for the bytes that are not there. At most 256 bytes stand before the table's 1,242.
-pub fn padded(s: &[u8]) -> [u8; 1498] {
-    let mut all = [0u8; 1498];
+// The bytes of a raw table, with 0 for those that are not there. 32 starts have fewer.
+fn padded(s: &[u8]) -> [u8; 1242] {
+    let mut all = [0u8; 1242];
     let mut i: usize = 0;
-    while i < 1498 && i < s.len() {
+    while i < 1242 && i < s.len() {
         all[i] = s[i];
         i += 1;
     }
@@ -65,34 +65,39 @@ fn tasks(s: &[u8], at: usize) -> [Task; 32]
     all
 }
 
-// tRFC and tREFI are not looked at yet.
-pub fn table(s: &[u8], at: usize) -> Table
-    requires { ⌜ at + 1242 ≤ length (now s) ⌝ }
-{
+// The raw table at a place of a payload. tRFC and tREFI are not looked at yet.
+pub fn table(payload: &[u8], at: usize) -> Table {
+    let s = padded(from(payload, at));
     let mut timing = [0u16; 15];
-    figures(s, at + 4, &mut timing);
+    figures(&s, 4, &mut timing);
     let mut sets = [0u16; 8];
-    figures(s, at + 42, &mut sets);
-    let task = tasks(s, at + 58);
+    figures(&s, 42, &mut sets);
+    let task = tasks(&s, 58);
     Table {
-        cores: s[at],
-        partitions: s[at + 1],
-        tasks: s[at + 2],
-        fourth: s[at + 3],
+        cores: s[0],
+        partitions: s[1],
+        tasks: s[2],
+        fourth: s[3],
         timing: timing,
         sets: sets,
         task: task,
     }
 }
 
-pub fn starts(s: &[u8]) -> [Picos; 32]
-    requires { ⌜ 256 ≤ length (now s) ⌝ }
-{
+// The number of 8 bytes at a place of a payload, as a time.
+pub fn start(payload: &[u8], at: usize) -> Picos {
+    let s = padded(from(payload, at));
+    Picos(bytes::le64(&s, 0))
+}
+
+// The 32 starts that a payload begins with.
+pub fn starts(payload: &[u8]) -> [Picos; 32] {
+    let s = padded(payload);
     let fresh = Picos(0);
     let mut all = [fresh; 32];
     let mut i: usize = 0;
     while i < 32 {
-        all[i] = Picos(bytes::le64(s, 8 * i));
+        all[i] = Picos(bytes::le64(&s, 8 * i));
         i += 1;
     }
     all

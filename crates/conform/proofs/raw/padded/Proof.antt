@@ -7,10 +7,10 @@ use Rattle.conform.proofs.raw.padded.Statement.{statement}
 use Rattle.conform.proofs.raw.padded.Tie as tie
 
 abbrev Inv-loop : tie.InvT-loop
-Inv-loop s all₀ i₀ all i = (i ≤ 1498) × (length all ≡ 1498)
+Inv-loop s all₀ i₀ all i = (i ≤ 1242) × (length all ≡ 1242)
 
 abbrev μ-loop : tie.MeasureT-loop
-μ-loop s all₀ i₀ all i = 1498 - i
+μ-loop s all₀ i₀ all i = 1242 - i
 
 pub padded-spec : {M : Type 1} → statement M
 padded-spec =
