@@ -10,7 +10,8 @@ use Rattle.rules.specs.Chain.{isAccepted}
 use Rattle.rules.specs.Refusals.{checkTable}
 use Rattle.rules.specs.Listing.{tableLines, tableText, refusedLine}
 use Rattle.laws.specs.Idioms.{text}
-use Rattle.rows.specs.Rows.{rows, last}
+use Rattle.rows.specs.Rows.{rows}
+use Rattle.misses.specs.Last.{last}
 
 pub table-lines : (t : Table) (answers : List Answer)
     → tableLines t answers ≡ text "task core verdict bound by rounds\n" ++ rows t answers (t .tasks) ++ last answers (t .tasks)

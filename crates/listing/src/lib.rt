@@ -1,6 +1,6 @@
 // The listing (RULES 8): its bytes for a table with its answers, and for a table file, into a lent buffer.
-use rows::first_miss;
-use rows::put_last;
+use misses::first_miss;
+use misses::put_last;
 use rows::put_rows;
 use rules::Answer;
 use rules::Table;

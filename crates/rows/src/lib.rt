@@ -1,19 +1,17 @@
-// The rows of a listing, into a buffer that has room for them: a line for each task, and the last, that all hold or which misses first.
+// The rows of a listing, into a buffer that has room for them: a line for each task.
 use rules::Answer;
 use rules::Delay;
 use rules::Table;
 use rules::Verdict;
 use text::put_field;
 use text::put_phrase;
-use text::put_word;
-ghost use mathlib.Core.Path.{_≡_};
 ghost use mathlib.Core.List.{[], _∷_, _++_};
 ghost use Prim.Native.Nat.{_+_, _≤_};
 ghost use lib.ListN.{length};
 ghost use Rattle.laws.specs.Decimal.{decimal};
-ghost use Rattle.rules.specs.Listing.{line, delayWord, verdictWords, taskLine, isMiss};
+ghost use Rattle.rules.specs.Listing.{line, delayWord, verdictWords, taskLine};
 ghost use Rattle.text.specs.Put.{Put};
-ghost use Rattle.rows.specs.Rows.{rows, last, lastFor};
+ghost use Rattle.rows.specs.Rows.{rows};
 
 // The end of a line that holds: deciding delay and rounds.
 fn put_delay(buf: &mut [u8], at: usize, by: Delay, rounds: u64) -> usize
@@ -71,42 +69,4 @@ pub fn put_rows(buf: &mut [u8], at: usize, t: Table, answers: [Answer; 32]) -> u
         end = put_row(buf, end, i as u64, core, answer);
     }
     end
-}
-
-pub fn is_miss(verdict: Verdict) -> bool
-    ensures { λ r. ⌜ r ≡ isMiss verdict ⌝ }
-{
-    match verdict {
-        Verdict::Misses => true,
-        Verdict::Holds(_, _) => false,
-    }
-}
-
-// The number of the first task that misses, 0 where none does.
-pub fn first_miss(n: usize, answers: [Answer; 32]) -> u64
-    requires { ⌜ n ≤ 32 ⌝ }
-    ensures { λ r. ⌜ lastFor r ≡ last answers n ⌝ }
-{
-    let mut i: usize = 0;
-    while i < n {
-        let answer = answers[i];
-        i += 1;
-        let verdict = answer.verdict;
-        if is_miss(verdict) {
-            return i as u64;
-        }
-    }
-    0
-}
-
-// That all hold, or the first task that misses.
-pub fn put_last(buf: &mut [u8], at: usize, first: u64) -> usize
-    requires { ⌜ at + 32 ≤ length (now buf) ⌝ }
-    ensures { λ r. ⌜ Put (now (buf .entry)) at (lastFor first) r (now (buf .exit)) ⌝ }
-    ensures { λ r. ⌜ r ≤ at + 32 ⌝ }
-{
-    if first == 0 {
-        return put_word(buf, at, b"all hold\n");
-    }
-    put_phrase(buf, at, b"first miss ", first, b'\n')
 }

@@ -15,7 +15,7 @@ fn of_answers(tasks: u8, answers: [Answer; 32]) -> u8
     while k <= n {
         let answer = answers[k - 1];
         let verdict = answer.verdict;
-        if rows::is_miss(verdict) {
+        if misses::is_miss(verdict) {
             return 1;
         }
         k += 1;

@@ -1,9 +1,9 @@
 -- `put_last` meets its contract. Assumes nothing.
 use native.Mathlib.Omega.{arith}
 use borrow.Author.Needs.{needs}
-use Rattle.rows.proofs.Missed.{some-last}
-use Rattle.rows.proofs.put_last.Statement.{statement}
-use Rattle.rows.proofs.put_last.Tie as tie
+use Rattle.misses.proofs.Missed.{some-last}
+use Rattle.misses.proofs.put_last.Statement.{statement}
+use Rattle.misses.proofs.put_last.Tie as tie
 
 returns : tie.Need-returns
 returns c =

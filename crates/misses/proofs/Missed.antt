@@ -11,7 +11,7 @@ use Rattle.rules.specs.declared.Answer.{Answer}
 use Rattle.laws.specs.Idioms.{from, entry, those}
 use Rattle.rules.specs.Judgement.{misses}
 use Rattle.rules.specs.Listing.{isMiss, lastLine}
-use Rattle.rows.specs.Rows.{last, lastFor}
+use Rattle.misses.specs.Last.{last, lastFor}
 
 module _ (answers : List Answer) where
   unfoldable pub lastFrom : ℕ → ℕ → List ℕ

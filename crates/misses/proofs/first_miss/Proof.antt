@@ -3,10 +3,10 @@ use mathlib.Core.Path.{_≡_, _∙_, sym}
 use Prim.Native.Nat.{_-_, _≤_}
 use native.Mathlib.Omega.{arith}
 use borrow.Author.Needs.{needs}
-use Rattle.rows.specs.Rows.{last}
-use Rattle.rows.proofs.Missed.{lastFrom, last-start, last-none, last-hit, last-pass}
-use Rattle.rows.proofs.first_miss.Statement.{statement}
-use Rattle.rows.proofs.first_miss.Tie as tie
+use Rattle.misses.specs.Last.{last}
+use Rattle.misses.proofs.Missed.{lastFrom, last-start, last-none, last-hit, last-pass}
+use Rattle.misses.proofs.first_miss.Statement.{statement}
+use Rattle.misses.proofs.first_miss.Tie as tie
 
 abbrev Inv-loop : tie.InvT-loop
 Inv-loop n answers i₀ i = (i ≤ n) × (last answers n ≡ lastFrom answers i n)

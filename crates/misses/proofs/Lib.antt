@@ -1,0 +1,3 @@
+-- Laws that belong to no one function.
+--     Missed     the last line
+pub mod Missed
