@@ -1,6 +1,7 @@
 // What a judgement of a table that is passed directly meets before any round.
 ghost use mathlib.Core.Path.{_≡_};
 ghost use Rattle.rules.specs.Refusals.{checkJudged, checkStart};
+use rules::Picos;
 use rules::Refusal;
 use rules::Table;
 use rules::refused;
@@ -13,8 +14,8 @@ pub fn table(t: Table) -> Refusal
 }
 
 // Those before a judgement of one task: then 12 and 13.
-pub fn start(t: Table, k: u8, start: u64) -> Refusal
-    ensures { λ r. ⌜ r ≡ checkStart t k start ⌝ }
+pub fn start(t: Table, k: u8, start: Picos) -> Refusal
+    ensures { λ r. ⌜ r ≡ checkStart t k (start .0) ⌝ }
 {
     let refusal = table(t);
     if refusal.number != 0 {
@@ -28,7 +29,7 @@ pub fn start(t: Table, k: u8, start: u64) -> Refusal
     }
     let i = (k as usize) - 1;
     let task = t.task[i];
-    if climb::latest(task) < start {
+    if climb::latest(task) < start.0 {
         return refused(13, k);
     }
     refused(0, 0)

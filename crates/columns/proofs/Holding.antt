@@ -152,7 +152,7 @@ module _ (t : Table) (s : Sound t) {l : Lent} (o : Held t l) where
         }
 
     cost-is : entry noCosts (l .board .costs) own ≡ costsOf t own
-    unfolding allCosts
+    unfolding allCosts costsOf
     cost-is = rw (o .board-is) (place-of noCosts (costsOf t) 8 (t .cores) own (own-in .low) (own-in .high))
 
     terms-are : termsAt l i ≡ termsFor t (i + 1) first (placeAt l i) (l .begins) (l .periods) (l .execs) (l .asks)
@@ -171,7 +171,7 @@ module _ (t : Table) (s : Sound t) {l : Lent} (o : Held t l) where
   tasks-are = ap (λ (b : Priced). b .tasks) (o .board-is)
 
   costs-long : length (l .board .costs) ≡ 8
-  unfolding allCosts
+  unfolding allCosts costsOf
   costs-long = rw (o .board-is) (filled-length 8 noCosts (map (costsOf t) (upTo (t .cores))) (rw (length-map-from (costsOf t) (t .cores) 1) (s .cores-in .high)))
 
   pub of-judgeable : Judgeable l

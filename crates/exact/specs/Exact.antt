@@ -62,7 +62,7 @@ pub record Promises : Type 0 where
   pub difference : (older newer : Table) → Exact (λ (r : Change). r ≡ Difference.difference older newer)
   -- admit
   pub admit-table : (t : Table) → Exact (λ (r : Refusal). r ≡ checkJudged t)
-  pub admit-start : (t : Table) (k start : ℕ) → Exact (λ (r : Refusal). r ≡ checkStart t k start)
+  pub admit-start : (t : Table) (k : ℕ) (start : Picos) → Exact (λ (r : Refusal). r ≡ checkStart t k (start .0))
   -- judge
   pub judge-one : (t : Table) (k : ℕ) (start : Picos) → Exact (λ (r : Judged). r ≡ judgeOne t k (start .0))
   pub judge-all : (t : Table) (starts : List Picos) → Exact (λ (r : AllJudged). r ≡ judgeAll t (inPicos starts))

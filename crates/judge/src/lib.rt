@@ -22,7 +22,7 @@ fn not_judged(refusal: Refusal) -> Judged
 pub fn judge_one(table: Table, k: u8, start: Picos) -> Judged
     ensures { λ r. ⌜ r ≡ judgeOne table k (start .0) ⌝ }
 {
-    let refusal = admit::start(table, k, start.0);
+    let refusal = admit::start(table, k, start);
     if refusal.number != 0 {
         return not_judged(refusal);
     }

@@ -27,4 +27,4 @@ unfoldable pub costsOf : Table → ℕ → CoreCosts
 costsOf t p = costsAt (t .cores) (pricesOf t p)
 
 unfoldable pub allCosts : Table → List CoreCosts
-allCosts t = filled 8 noCosts (map (costsOf t) (upTo (t .cores)))
+allCosts t = eachCosts (t .cores) (pricesOf t)

@@ -3,9 +3,8 @@ ghost use mathlib.Core.Path.{_≡_};
 ghost use Prim.Native.Nat.{_%_, _≤_};
 ghost use Rattle.rules.specs.Timing.{ddr3-1333};
 ghost use Rattle.rules.specs.Chain.{first};
-ghost use Rattle.rules.specs.Refusals.{figureFault, relationFault, checkTiming, checkBus};
+ghost use Rattle.rules.specs.Refusals.{figureFault, relationFault, checkTiming, busFault, checkBus};
 ghost use Rattle.timing.specs.Ranges.{notBurst, outOfRange, AreRanges};
-ghost use Rattle.timing.specs.Bus.{wrongAt};
 use cycles::figure;
 use rules::Refusal;
 use rules::refused;
@@ -142,11 +141,13 @@ pub fn check(row: [u16; 15]) -> Refusal
     check_relations(row)
 }
 
-// Is x wrong as the figure at i, counted from 0, of a bus's row (RULES 2.8)? The first is s, the others have to be 0.
-fn is_wrong(i: usize, x: u16) -> bool
-    ensures { λ r. ⌜ r ≡ wrongAt i x ⌝ }
+// Is figure k of a bus's row at fault (RULES 2.8)? The first is s, the others have to be 0.
+fn bus_fault(row: [u16; 15], k: usize) -> bool
+    requires { ⌜ (1 ≤ k) × (k ≤ 15) ⌝ }
+    ensures { λ r. ⌜ r ≡ busFault row k ⌝ }
 {
-    if i == 0 { x == 0 } else { x != 0 }
+    let x = row[k - 1];
+    if k == 1 { x == 0 } else { x != 0 }
 }
 
 // 16 (RULES 9.3) of a bus's row, with the first figure at fault.
@@ -155,7 +156,7 @@ pub fn check_bus(row: [u16; 15]) -> Refusal
 {
     let mut i: usize = 0;
     while i < 15 {
-        if is_wrong(i, row[i]) {
+        if bus_fault(row, i + 1) {
             return refused(16, (i + 1) as u8);
         }
         i += 1;

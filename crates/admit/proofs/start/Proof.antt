@@ -20,26 +20,26 @@ returns : tie.Need-returns
 returns c =
     let a = c .before .before .before .args in
     let e = c .before .before .table .ensures in
-    e ∙ start-table (a .t1) (a .k) (a .start) (refuses e (c .if1 .taken))
+    e ∙ start-table (a .t1) (a .k) (a .start .0) (refuses e (c .if1 .taken))
 
 returns-2 : tie.Need-returns-2
-returns-2 c = let a = c .before .before .before .before .before .args in c .refused .ensures ∙ start-low (a .t1) (a .k) (a .start) (table-passes (c .before .before)) (search needs)
+returns-2 c = let a = c .before .before .before .before .before .args in c .refused .ensures ∙ start-low (a .t1) (a .k) (a .start .0) (table-passes (c .before .before)) (search needs)
 
 returns-3 : tie.Need-returns-3
-returns-3 c = let a = c .before .before .before .before .before .before .args in c .refused2 .ensures ∙ start-high (a .t1) (a .k) (a .start) (table-passes (c .before .before .before)) (search needs)
+returns-3 c = let a = c .before .before .before .before .before .before .args in c .refused2 .ensures ∙ start-high (a .t1) (a .k) (a .start .0) (table-passes (c .before .before .before)) (search needs)
 
 element-copy-out-task : tie.Need-element-copy-out-task
 element-copy-out-task c = omega (arith, sound (c .before .before .before .before .before .args .t1) (judged-accepted _ (table-passes (c .before .before))) .tasks-in .high)
 
 returns-4 : tie.Need-returns-4
 returns-4 c =
-    let a = c .before .before .before .before .before .before .before .before .before .args in
-    c .refused3 .ensures ∙ start-late (a .t1) (a .k) (a .start) (table-passes (c .before .before .before .before .before .before)) (search needs) (search needs) (omega (arith, c .before .before .latest .ensures))
+    let a = c .before .before .before .before .before .before .before .before .before .before .args in
+    c .refused3 .ensures ∙ start-late (a .t1) (a .k) (a .start .0) (table-passes (c .before .before .before .before .before .before .before)) (search needs) (search needs) (omega (arith, c .before .before .before .latest .ensures))
 
 returns-5 : tie.Need-returns-5
 returns-5 c =
-    let a = c .before .before .before .before .before .before .before .before .before .args in
-    c .refused4 .ensures ∙ start-passes (a .t1) (a .k) (a .start) (table-passes (c .before .before .before .before .before .before)) (search needs) (search needs) (omega (arith, c .before .before .latest .ensures))
+    let a = c .before .before .before .before .before .before .before .before .before .before .args in
+    c .refused4 .ensures ∙ start-passes (a .t1) (a .k) (a .start .0) (table-passes (c .before .before .before .before .before .before .before)) (search needs) (search needs) (omega (arith, c .before .before .before .latest .ensures))
 
 pub start-spec : {M : Type 1} → statement M
 start-spec =

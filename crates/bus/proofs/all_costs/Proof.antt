@@ -14,11 +14,11 @@ use Rattle.bus.proofs.all_costs.Statement.{statement}
 use Rattle.bus.proofs.all_costs.Tie as tie
 
 abbrev Inv-loop : tie.InvT-loop
-Inv-loop cores turn all₀ p₀ all p =
-    (p ≤ cores) × ((t : Table) → t .cores ≡ cores → slotIn (t .timing) ≡ turn → all ≡ filled 8 noCosts (map (λ r. costsAt (t .cores) (busPrices t r)) (upTo p)))
+Inv-loop cores s all₀ p₀ all p =
+    (p ≤ cores) × ((t : Table) → t .cores ≡ cores → slotIn (t .timing) ≡ s → all ≡ filled 8 noCosts (map (λ r. costsAt (t .cores) (busPrices t r)) (upTo p)))
 
 abbrev μ-loop : tie.MeasureT-loop
-μ-loop cores turn all₀ p₀ all p = cores - p
+μ-loop cores s all₀ p₀ all p = cores - p
 
 loop-holds : tie.Need-loop-holds Inv-loop μ-loop
 unfolding from

@@ -17,11 +17,11 @@ use Rattle.bus.proofs.costs.Statement.{statement}
 use Rattle.bus.proofs.costs.Tie as tie
 
 abbrev Inv-loop : tie.InvT-loop
-Inv-loop cores p turn weight₀ q₀ weight q =
-    (q ≤ cores) × ((t : Table) → slotIn (t .timing) ≡ turn → weight ≡ filled 8 (ps 0) (map (λ r. ps (ifOther t p r)) (upTo q)))
+Inv-loop cores p s weight₀ q₀ weight q =
+    (q ≤ cores) × ((t : Table) → slotIn (t .timing) ≡ s → weight ≡ filled 8 (ps 0) (map (λ r. ps (ifOther t p r)) (upTo q)))
 
 abbrev μ-loop : tie.MeasureT-loop
-μ-loop cores p turn weight₀ q₀ weight q = cores - q
+μ-loop cores p s weight₀ q₀ weight q = cores - q
 
 loop-holds : tie.Need-loop-holds Inv-loop μ-loop
 unfolding from
