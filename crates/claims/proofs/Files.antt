@@ -10,43 +10,42 @@ use borrow.Author.Tests.{le-ltb, ltb-false}
 use Rattle.rules.specs.declared.Table.{Table}
 use Rattle.rules.specs.Chain.{accepted, isAccepted, given}
 use Rattle.rules.specs.Refusals.{checkTable}
-use Rattle.rules.specs.File.{encode, decode}
+use Rattle.rules.specs.File.{encode, checkWhole, decode}
 use Rattle.rules.specs.Operations.{emptyTable, checkFile, reading, checkWrite, writing, outAfter}
 use Rattle.laws.specs.Bytes.{Bytes}
+use Rattle.laws.proofs.Tests.{fails}
 use Rattle.rules.proofs.EveryRule.{every-rule}
 use Rattle.facts.proofs.Chain.{both-accepted, no-fault}
-use Rattle.facts.proofs.Reading.{file-whole, decoded-accepted, read-table, read-accepted}
-use Rattle.claims.specs.Files.{AcceptedFile, AcceptedTable, Damage, Shape, cleared, Return, ReturnInPlace, OneToOne, NotEmpty}
-use Rattle.whole.proofs.Came.{Whole, whole, came-whole}
+use Rattle.facts.proofs.Reading.{reading-is, refusal-read, file-whole, decoded-accepted, read-table, read-accepted}
+use Rattle.claims.specs.Files.{AcceptedFile, AcceptedTable, Check, readCheck, Damage, PointOne, Shape, cleared, Return, ReturnInPlace, OneToOne, NotEmpty}
+use Rattle.arrival.proofs.Came.{whole, came-whole}
 use Rattle.claims.proofs.Damage.{not-cut, not-altered}
 use Rattle.claims.proofs.FromFile.{already-cleared, shape-of-read, written-again}
 use Rattle.claims.proofs.FromTable.{file-small, encode-whole, read-again}
 use Rattle.claims.proofs.NoRefusal.{table-plain}
 use Rattle.claims.proofs.Cleared.{cleared-same}
 
--- a test that cannot pass fails
-fails : (b : Bool) → (b ≡ true → ⊥) → b ≡ false
-fails true h = absurd (h refl)
-fails false h = refl
-
 -- ---- an accepted file
 
-module _ (s : List ℕ) (ok : AcceptedFile s) where
-  checked : isAccepted (checkFile s) ≡ true
-  unfolding reading
-  checked = ok
+checked : (s : List ℕ) → AcceptedFile s → isAccepted (checkFile s) ≡ true
+checked s ok = rw (refusal-read s) at ok
 
-  came : Whole s
-  came = whole s (file-whole s checked)
+came : (s : List ℕ) → AcceptedFile s → isAccepted (checkWhole s) ≡ true
+came s ok = file-whole s (checked s ok)
 
-  read-written-back : Bytes s → encode (reading s .table) ≡ s
-  read-written-back b = rw (read-table s checked) (written-again b came)
+read-written-back : (s : List ℕ) → AcceptedFile s → Bytes s → encode (reading s .table) ≡ s
+read-written-back s ok b = rw (read-table s (checked s ok)) (written-again b (whole s (came s ok)))
 
-pub damage : Damage
-damage = record {
-  cut-short = λ s ok n less. fails _ (λ e. not-cut n less (came s ok) (came (take n s) e));
-  one-byte = λ s b ok i v less byte other. fails _ (λ e. not-altered i v less other (came s ok) (came (set s i v) e) b byte);
+-- what a check accepts of files that came whole only, cannot be cut or altered either
+damaged : (check : Check) → ((s : List ℕ) → isAccepted (check s) ≡ true → isAccepted (checkWhole s) ≡ true) → Damage check
+damaged check only = record {
+  cut-short = λ s ok n less. fails _ (λ e. not-cut n less (whole s (only s ok)) (whole (take n s) (only (take n s) e)));
+  one-byte = λ s b ok i v less byte other.
+      fails _ (λ e. not-altered i v less other (whole s (only s ok)) (whole (set s i v) (only (set s i v) e)) b byte);
 }
+
+pub point-one : PointOne
+point-one = record { whole = damaged checkWhole (λ s ok. ok); read = damaged readCheck came }
 
 -- ---- an accepted table
 
@@ -56,14 +55,12 @@ module _ (t : Table) (shape : Shape t) (passed : AcceptedTable t) where
   check-written = rw (came-whole (encode t) (encode-whole shape passed), read-again shape passed) (cleared-same t shape passed ∙ table-plain t passed)
 
   written-read-back : reading (encode t) ≡ record { refusal = accepted; table = cleared t }
-  unfolding reading
-  written-read-back = rw (check-written, read-again shape passed)
+  written-read-back = reading-is (encode t) ∙ rw (check-written, read-again shape passed)
 
 -- ---- what reading gives, accepted or not
 
-read-either : (P : Table → Type 0) (s : List ℕ) → (AcceptedFile s → P (decode s)) → P emptyTable → P (reading s .table)
-unfolding reading
-read-either P s yea nay = go (isAccepted (checkFile s)) refl
+read-either : (P : Table → Type 0) (s : List ℕ) → (isAccepted (checkFile s) ≡ true → P (decode s)) → P emptyTable → P (reading s .table)
+read-either P s yea nay = rw (reading-is s) (go (isAccepted (checkFile s)) refl)
   where
     go : (b : Bool) → isAccepted (checkFile s) ≡ b → P (cond b (decode s) emptyTable)
     go true e = yea e
@@ -81,7 +78,7 @@ return = record {
   read-written = written-read-back;
   written-read = λ s b ok. read-written-back s ok b;
   unused-zero = λ s. read-either (λ t. cleared t ≡ t) s (λ ok. already-cleared s) empty-cleared;
-  shape-read = λ s. read-either Shape s (λ ok. shape-of-read s (decoded-accepted s (checked s ok))) empty-shape;
+  shape-read = λ s. read-either Shape s (λ ok. shape-of-read s (decoded-accepted s ok)) empty-shape;
 }
 
 -- ---- writing into a lent buffer

@@ -15,7 +15,7 @@ use Rattle.laws.proofs.Runs.{length-map-from}
 use Rattle.laws.proofs.Filled.{filled-length, take-filled}
 use Rattle.laws.proofs.Rows.{written-back}
 use Rattle.claims.proofs.Codes.{number-code, task-code}
-use Rattle.whole.proofs.Came.{Whole}
+use Rattle.arrival.proofs.Came.{Whole}
 use Rattle.claims.proofs.Whole.{before, before-and-trailer}
 use Rattle.claims.proofs.Places.{header, figureBytes, setBytes, taskBytes, body-parts, figure-ladder, set-ladder, record-ladder, records-after-sets, trailer-after-records, parts-joined}
 

@@ -8,9 +8,10 @@
 --     Widths     every figure of an accepted table fits its field
 --     FromTable  the file of an accepted table is whole and gives that table
 --     Cleared    a table and the same table cleared meet the same refusals
---     NoRefusal  where nothing is refused, number and place are 0
+--     NoRefusal  which numbers a check gives; where nothing is refused, number and place are 0
 --     Files      the demands on table files
 -- and beside them
+--     Parts      reading in its two parts
 --     Refused    what a refused operation gives
 --     Point2     what a verdict says
 --     Point3     a newer table judged from the older one's bounds
@@ -27,6 +28,7 @@ pub mod FromTable
 pub mod Cleared
 pub mod NoRefusal
 pub mod Files
+pub mod Parts
 pub mod Refused
 pub mod Point2
 pub mod Point3

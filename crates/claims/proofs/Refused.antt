@@ -1,10 +1,12 @@
 -- A refused operation gives nothing and changes no lent byte. Assumes nothing.
-use mathlib.Core.Path.{_≡_, refl}
+use mathlib.Core.Path.{_≡_, refl, ap}
 use mathlib.Core.Bool.{Bool, true, false}
 use Rattle.rules.specs.declared.Table.{Table}
+use Rattle.rules.specs.declared.Read.{Read}
 use Rattle.rules.specs.Chain.{isAccepted}
 use Rattle.rules.specs.Refusals.{checkJudged}
-use Rattle.rules.specs.Operations.{reading, viewing, writing, outAfter, judgeOne, judgeAll, checkBoth, faultyOf, isCarried, rejudging}
+use Rattle.rules.specs.Operations.{viewing, writing, outAfter, judgeOne, judgeAll, checkBoth, faultyOf, isCarried, rejudging}
+use Rattle.facts.proofs.Reading.{refusal-read, refused-read}
 use Rattle.claims.specs.Refused.{isNeither, Refused}
 
 -- the older table's refusal comes first
@@ -16,9 +18,9 @@ neither older newer true false e g = simp (e, g)
 neither older newer true true e g = simp (e, g)
 
 pub refused : Refused
-unfolding reading viewing judgeOne judgeAll rejudging isCarried writing outAfter
+unfolding viewing judgeOne judgeAll rejudging isCarried writing outAfter
 refused = record {
-  read = λ s e. rw e;
+  read = λ s e. ap (λ (r : Read). r .table) (refused-read s (rw (refusal-read s) at e));
   view = λ s k e. rw e;
   one = λ t k start e. rw e;
   all = λ t starts e. rw e;

@@ -7,10 +7,11 @@ use mathlib.Core.Bool.{true, false}
 use mathlib.Core.List.{List, _++_}
 use lib.ListN.{length, take, drop, getD, set}
 use Rattle.rules.specs.declared.Table.{Table}
+use Rattle.rules.specs.declared.Refusal.{Refusal}
 use Rattle.rules.specs.Tasks.{noTask, tasksOf}
 use Rattle.rules.specs.Chain.{accepted, isAccepted}
 use Rattle.rules.specs.Refusals.{checkTable}
-use Rattle.rules.specs.File.{encode}
+use Rattle.rules.specs.File.{checkWhole, encode}
 use Rattle.rules.specs.Operations.{reading, writing, outAfter}
 use Rattle.rules.specs.Figures.{listed}
 use Rattle.laws.specs.Idioms.{filled}
@@ -26,10 +27,23 @@ RefusedFile s = isAccepted (reading s .refusal) ≡ false
 abbrev pub AcceptedTable : Table → Type 0
 AcceptedTable t = isAccepted (checkTable t) ≡ true
 
--- point 1: an accepted file that is cut short, or has one byte altered, is refused
-pub record Damage : Type 0 where
-  pub cut-short : (s : List ℕ) → AcceptedFile s → (n : ℕ) → n < length s → RefusedFile (take n s)
-  pub one-byte : (s : List ℕ) → Bytes s → AcceptedFile s → (i b : ℕ) → i < length s → b < 256 → b ≢ getD s i 0 → RefusedFile (set s i b)
+-- a check of files, by what it refuses: whether they came whole, and reading
+abbrev pub Check : Type 0
+Check = List ℕ → Refusal
+
+abbrev pub readCheck : Check
+readCheck s = reading s .refusal
+
+-- point 1, of a check: what it accepts it refuses when cut short, and with any one byte altered
+pub record Damage (check : Check) : Type 0 where
+  pub cut-short : (s : List ℕ) → isAccepted (check s) ≡ true → (n : ℕ) → n < length s → isAccepted (check (take n s)) ≡ false
+  pub one-byte : (s : List ℕ) → Bytes s → isAccepted (check s) ≡ true
+      → (i b : ℕ) → i < length s → b < 256 → b ≢ getD s i 0 → isAccepted (check (set s i b)) ≡ false
+
+-- of both: a whole file that is damaged so did not come whole, and an accepted one is refused
+pub record PointOne : Type 0 where
+  pub whole : Damage checkWhole
+  pub read : Damage readCheck
 
 -- the shape in which code holds every table: RULES 2.7
 pub record Shape (t : Table) : Type 0 where

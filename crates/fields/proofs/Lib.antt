@@ -1,3 +1,3 @@
 -- What the proofs of the functions stand on.
---     Steps  a record as a part, one figure and one task more of a file
+--     Steps  a record as a part, and one figure more of a file
 pub mod Steps

@@ -1,4 +1,4 @@
--- The part that a record is, and one figure more and one task more of a file, as the loops that read them store them. Assumes nothing.
+-- The part that a record is and its task, and one figure more of a file, as the loop that reads them stores it. Assumes nothing.
 use mathlib.Core.Path.{_≡_, sym}
 use mathlib.Core.List.{List}
 use Prim.Native.Nat.{ℕ, _+_, _*_, _-_, _<_, _≤_}
@@ -6,16 +6,14 @@ use native.Mathlib.Nat.{add-sub-cancel-left}
 use native.Mathlib.Omega.{arith}
 use lib.ListN.{length, set, take, drop}
 use lib.Seq.{sets}
-use Rattle.rules.specs.declared.Task.{Task}
 use Rattle.rules.specs.Tasks.{noTask, taskOf}
 use Rattle.rules.specs.File.{recordSize, recordAt, recordIn, recordTask, coresIn, tasksIn, formIn, decode}
-use Rattle.laws.specs.Idioms.{numberIn, part, filled}
-use Rattle.laws.proofs.Fill.{fill-step}
+use Rattle.laws.specs.Idioms.{numberIn, part}
 use Rattle.laws.proofs.Places.{place-of}
 use Rattle.laws.proofs.Parts.{part-length}
-use Rattle.laws.proofs.Runs.{map-below-next, map-upTo-next, length-map-from, sets-next}
+use Rattle.laws.proofs.Runs.{map-below-next, length-map-from, sets-next}
 use Rattle.places.proofs.Places.{record-limit}
-use Rattle.fields.specs.Places.{figuresIn, tasksTo}
+use Rattle.fields.specs.Places.{figuresIn}
 
 module _ (s : List ℕ) where
   pub figures-length : (at n : ℕ) → length (figuresIn s at n) ≡ n
@@ -39,8 +37,3 @@ module _ (s : List ℕ) where
   pub task-is : (i : ℕ) → i < tasksIn s → recordTask (recordIn s (i + 1)) ≡ taskOf (decode s) (i + 1)
   unfolding decode
   task-is i here = sym (place-of noTask (λ k. recordTask (recordIn s k)) 32 (tasksIn s) (i + 1) (omega arith) (omega arith))
-
-  pub task-next : (i : ℕ) → i < 32 → set (filled 32 noTask (tasksTo s i)) i (recordTask (recordIn s (i + 1))) ≡ filled 32 noTask (tasksTo s (i + 1))
-  task-next i h =
-      let f : ℕ → Task = λ k. recordTask (recordIn s k) in
-      rw (map-upTo-next f i) (fill-step 32 noTask (tasksTo s i) i (f (i + 1)) (length-map-from f i 1) h)

@@ -1,3 +1,3 @@
 -- What the functions promise beside the rules.
---     Places  runs of figures and of tasks, and a file of the right length
+--     Places  runs of figures, and a file of the right length
 pub mod Places

@@ -1,15 +1,13 @@
-// The figures, records and table of a file that is as long as its header says. What the bytes mean is in the rules, where they stand is `places`'.
+// The figures and records of a file that is as long as its header says. What the bytes mean is in the rules, where they stand is `places`'.
 
 ghost use mathlib.Core.Path.{_≡_};
 ghost use Prim.Native.Nat.{_+_, _*_, _≤_, _<_};
 ghost use lib.ListN.{length};
 ghost use lib.Seq.{sets};
-ghost use Rattle.laws.specs.Idioms.{filled};
-ghost use Rattle.rules.specs.Tasks.{noTask, taskOf};
+ghost use Rattle.rules.specs.Tasks.{taskOf};
 ghost use Rattle.rules.specs.File.{recordSize, recordAt, recordTask, recordIn, coresIn, tasksIn, formIn, decode};
-ghost use Rattle.fields.specs.Places.{Sized, figuresIn, setsOf, tasksTo};
+ghost use Rattle.fields.specs.Places.{Sized, figuresIn, setsOf};
 use rules::Picos;
-use rules::Table;
 use rules::Task;
 
 // The record in place i, as a part of the file.
@@ -64,24 +62,6 @@ fn figures(file: &[u8], at: usize, n: usize, into: &mut [u16])
     }
 }
 
-// The tasks, and no task in the other places.
-fn tasks(file: &[u8]) -> [Task; 32]
-    requires { ⌜ tasksIn (now file) ≤ 32 ⌝ }
-    requires { ⌜ Sized (now file) ⌝ }
-    ensures { λ r. ⌜ r ≡ filled 32 noTask (tasksTo (now (file .entry)) (tasksIn (now (file .entry)))) ⌝ }
-{
-    let n = places::size(file[2]);
-    let none = tasks::no_task();
-    let mut all = [none; 32];
-    let mut i: usize = 0;
-    while i < n {
-        let task = task_at(file, i);
-        all[i] = task;
-        i += 1;
-    }
-    all
-}
-
 // The 15 timing figures.
 pub fn row_in(file: &[u8]) -> [u16; 15]
     requires { ⌜ 34 ≤ length (now file) ⌝ }
@@ -106,24 +86,4 @@ pub fn sets_in(file: &[u8]) -> [u16; 8]
         &mut sets[..],
     );
     sets
-}
-
-// The table of a whole file whose counts have room in it.
-pub fn table_in(file: &[u8]) -> Table
-    requires { ⌜ (coresIn (now file) ≤ 8) × (tasksIn (now file) ≤ 32) ⌝ }
-    requires { ⌜ Sized (now file) ⌝ }
-    ensures { λ r. ⌜ r ≡ decode (now (file .entry)) ⌝ }
-{
-    let timing = row_in(file);
-    let sets = sets_in(file);
-    let task = tasks(file);
-    Table {
-        cores: file[0],
-        partitions: file[1],
-        tasks: file[2],
-        fourth: file[3],
-        timing: timing,
-        sets: sets,
-        task: task,
-    }
 }

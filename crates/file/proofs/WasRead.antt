@@ -9,12 +9,11 @@ use Rattle.rules.specs.Refusals.{checkTable}
 use Rattle.rules.specs.File.{decode}
 use Rattle.rules.specs.Operations.{checkFile, reading}
 use Rattle.facts.proofs.Chain.{passes, refuses}
-use Rattle.facts.proofs.Reading.{decoded-accepted, read-table}
+use Rattle.facts.proofs.Reading.{refusal-read, decoded-accepted, read-table}
 
 module _ (s : List ℕ) {r : Read} (is : r ≡ reading s) where
   pub refusal-of : r .refusal ≡ checkFile s
-  unfolding reading
-  refusal-of = ap (λ (x : Read). x .refusal) is
+  refusal-of = ap (λ (x : Read). x .refusal) is ∙ refusal-read s
 
   pub not-accepted : (r .refusal .number ≡ 0 → ⊥) → isAccepted (checkFile s) ≡ false
   not-accepted = refuses refusal-of

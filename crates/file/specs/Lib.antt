@@ -1,3 +1,3 @@
--- What an inner function promises. The rules say what reading and viewing answer.
---     Answers  what a refused read answers
-pub mod Answers
+-- What an inner function promises. The rules say what reading gives.
+--     Tasks  the tasks of a file, one after the other
+pub mod Tasks

@@ -1,17 +1,23 @@
-// Table files: reader and view. What the bytes mean is in the rules; how figures and records are read is `fields`'.
+// Table files, read. Reading is two parts (RULES 7.4): did the file come whole, which is `arrival`'s; and its figures, which are taken out here. What the
+// bytes mean is in the rules; how figures and records are read is `fields`'.
 
 ghost use mathlib.Core.Path.{_≡_};
+ghost use mathlib.Core.Bool.{true};
 ghost use Prim.Native.Nat.{_≤_};
-ghost use Rattle.rules.specs.File.{coresIn, decode};
-ghost use Rattle.rules.specs.Refusals.{checkBoard, checkTasks};
-ghost use Rattle.rules.specs.Operations.{checkFile, reading, checkView, viewing};
+ghost use Rattle.laws.specs.Idioms.{filled};
+ghost use Rattle.rules.specs.Chain.{isAccepted};
+ghost use Rattle.rules.specs.Tasks.{noTask};
+ghost use Rattle.rules.specs.File.{coresIn, tasksIn, checkWhole, decode};
+ghost use Rattle.rules.specs.Refusals.{checkBoard, checkTasks, checkTable};
+ghost use Rattle.rules.specs.Operations.{readNothing, taking, reading, checkFile};
 ghost use Rattle.fields.specs.Places.{Sized};
-ghost use Rattle.file.specs.Answers.{readNothing};
+ghost use Rattle.file.specs.Tasks.{tasksTo};
 use rules::Read;
 use rules::Refusal;
 use rules::Table;
+use rules::Task;
 
-// ---- the refusals, from the bytes: no table is made
+// ---- the second part: of a file that came whole. Nothing outside this crate can call these
 
 // 5 to 8 and 16.
 fn board_in(file: &[u8]) -> Refusal
@@ -47,14 +53,11 @@ fn records_in(file: &[u8]) -> Refusal
     tasks::told(seen)
 }
 
-// 1 to 11 and 16. Sets that have no room in a table are refused by their count before they are looked at.
-pub fn check(file: &[u8]) -> Refusal
-    ensures { λ r. ⌜ r ≡ checkFile (now (file .entry)) ⌝ }
+// 5 to 11 and 16, from the bytes: no table is made. Sets that have no room in a table are refused by their count before they are looked at.
+fn figures_refusal(file: &[u8]) -> Refusal
+    requires { ⌜ isAccepted (checkWhole (now file)) ≡ true ⌝ }
+    ensures { λ r. ⌜ r ≡ checkTable (decode (now (file .entry))) ⌝ }
 {
-    let came = whole::whole(file);
-    if came.number != 0 {
-        return came;
-    }
     if 8 < file[0] {
         return rules::refused(5, 0);
     }
@@ -63,6 +66,44 @@ pub fn check(file: &[u8]) -> Refusal
         return board;
     }
     records_in(file)
+}
+
+// The tasks, and no task in the other places.
+fn tasks(file: &[u8]) -> [Task; 32]
+    requires { ⌜ tasksIn (now file) ≤ 32 ⌝ }
+    requires { ⌜ Sized (now file) ⌝ }
+    ensures { λ r. ⌜ r ≡ filled 32 noTask (tasksTo (now (file .entry)) (tasksIn (now (file .entry)))) ⌝ }
+{
+    let n = places::size(file[2]);
+    let none = tasks::no_task();
+    let mut all = [none; 32];
+    let mut i: usize = 0;
+    while i < n {
+        let task = fields::task_at(file, i);
+        all[i] = task;
+        i += 1;
+    }
+    all
+}
+
+// The table, where its counts have room in one.
+fn table_in(file: &[u8]) -> Table
+    requires { ⌜ (coresIn (now file) ≤ 8) × (tasksIn (now file) ≤ 32) ⌝ }
+    requires { ⌜ Sized (now file) ⌝ }
+    ensures { λ r. ⌜ r ≡ decode (now (file .entry)) ⌝ }
+{
+    let timing = fields::row_in(file);
+    let sets = fields::sets_in(file);
+    let task = tasks(file);
+    Table {
+        cores: file[0],
+        partitions: file[1],
+        tasks: file[2],
+        fourth: file[3],
+        timing: timing,
+        sets: sets,
+        task: task,
+    }
 }
 
 // What a refused reading gives (RULES 9.2).
@@ -86,47 +127,42 @@ fn read_nothing(refusal: Refusal) -> Read
     }
 }
 
-// Reading: 1 to 4, then 5 to 11 and 16; then the table.
-pub fn read(file: &[u8]) -> Read
-    ensures { λ r. ⌜ r ≡ reading (now (file .entry)) ⌝ }
+// The figures taken out: 5 to 11 and 16, then the table.
+fn take(file: &[u8]) -> Read
+    requires { ⌜ isAccepted (checkWhole (now file)) ≡ true ⌝ }
+    ensures { λ r. ⌜ r ≡ taking (now (file .entry)) ⌝ }
 {
-    let refusal = check(file);
+    let refusal = figures_refusal(file);
     if refusal.number != 0 {
         return read_nothing(refusal);
     }
-    let table = fields::table_in(file);
+    let table = table_in(file);
     Read {
         refusal: refusal,
         table: table,
     }
 }
 
-// ---- the record of a task, shown as a part of the file
+// ---- the first part and then the second
 
-// 1 to 12.
-pub fn view_refusal(file: &[u8], k: u8) -> Refusal
-    ensures { λ r. ⌜ r ≡ checkView (now (file .entry)) k ⌝ }
+// Reading.
+pub fn read(file: &[u8]) -> Read
+    ensures { λ r. ⌜ r ≡ reading (now (file .entry)) ⌝ }
 {
-    let refusal = check(file);
-    if refusal.number != 0 {
-        return refusal;
+    let arrived = arrival::whole(file);
+    if arrived.number != 0 {
+        return read_nothing(arrived);
     }
-    if k < 1 {
-        return rules::refused(12, 0);
-    }
-    if file[2] < k {
-        return rules::refused(12, 0);
-    }
-    rules::refused(0, 0)
+    take(file)
 }
 
-// Viewing (RULES 7.4); what is refused shows no byte (RULES 9.2).
-pub fn view<'a>(file: &'a [u8], k: u8) -> &'a [u8]
-    ensures { λ r. ⌜ now r ≡ viewing (now (file .entry)) k ⌝ }
+// What reading refuses, where the table is not asked for: 1 to 4, then 5 to 11 and 16.
+pub fn check(file: &[u8]) -> Refusal
+    ensures { λ r. ⌜ r ≡ checkFile (now (file .entry)) ⌝ }
 {
-    let refusal = view_refusal(file, k);
-    if refusal.number != 0 {
-        return &file[0..0];
+    let came = arrival::whole(file);
+    if came.number != 0 {
+        return came;
     }
-    fields::record_in(file, places::size(k) - 1)
+    figures_refusal(file)
 }

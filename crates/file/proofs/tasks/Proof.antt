@@ -6,10 +6,11 @@ use borrow.Author.Needs.{needs}
 use Rattle.laws.specs.Idioms.{from, filled}
 use Rattle.rules.specs.Tasks.{noTask}
 use Rattle.rules.specs.File.{tasksIn}
-use Rattle.fields.specs.Places.{tasksTo}
-use Rattle.fields.proofs.Steps.{task-is, task-next}
-use Rattle.fields.proofs.tasks.Statement.{statement}
-use Rattle.fields.proofs.tasks.Tie as tie
+use Rattle.file.specs.Tasks.{tasksTo}
+use Rattle.fields.proofs.Steps.{task-is}
+use Rattle.file.proofs.Reading.{task-next}
+use Rattle.file.proofs.tasks.Statement.{statement}
+use Rattle.file.proofs.tasks.Tie as tie
 
 abbrev Inv-loop : tie.InvT-loop
 Inv-loop file n all₀ i₀ all i = (i ≤ n) × (all ≡ filled 32 noTask (tasksTo file i))

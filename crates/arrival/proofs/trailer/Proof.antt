@@ -7,9 +7,9 @@ use lib.ListN.{length, take}
 use lib.Seq.{length-take-le}
 use Rattle.laws.specs.Idioms.{numberIn, part}
 use Rattle.rules.specs.File.{sumOf}
-use Rattle.whole.proofs.Checks.{wrong-count, wrong-sum, wrong-running, trailer-right}
-use Rattle.whole.proofs.trailer.Statement.{statement}
-use Rattle.whole.proofs.trailer.Tie as tie
+use Rattle.arrival.proofs.Checks.{wrong-count, wrong-sum, wrong-running, trailer-right}
+use Rattle.arrival.proofs.trailer.Statement.{statement}
+use Rattle.arrival.proofs.trailer.Tie as tie
 
 returns : tie.Need-returns
 returns c = c .refused .ensures ∙ sym (wrong-count _ (rw (c .before .before .le32 .ensures) at (c .before .if1 .taken)))

@@ -1,9 +1,9 @@
 -- Refusals 1 to 4 in their order. Assumes nothing.
 use mathlib.Core.Path.{_∙_, sym}
 use borrow.Author.Needs.{needs}
-use Rattle.whole.proofs.Checks.{too-short, wrong-length, right-length}
-use Rattle.whole.proofs.whole.Statement.{statement}
-use Rattle.whole.proofs.whole.Tie as tie
+use Rattle.arrival.proofs.Checks.{too-short, wrong-length, right-length}
+use Rattle.arrival.proofs.whole.Statement.{statement}
+use Rattle.arrival.proofs.whole.Tie as tie
 
 returns-3 : tie.Need-returns-3
 returns-3 c = c .trailer .ensures ∙ sym (right-length _ (search needs) (rw (c .before .before .file-length .ensures .0) at (c .before .if2 .left)))

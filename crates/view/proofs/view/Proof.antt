@@ -9,9 +9,9 @@ use Rattle.rules.specs.Chain.{isAccepted}
 use Rattle.rules.specs.File.{formIn, coresIn, tasksIn}
 use Rattle.rules.specs.Operations.{checkView}
 use Rattle.places.proofs.Places.{record-within, length-is}
-use Rattle.file.proofs.Reading.{view-nothing, view-record, viewed-length, viewed-task}
-use Rattle.file.proofs.view.Statement.{statement}
-use Rattle.file.proofs.view.Tie as tie
+use Rattle.view.proofs.Viewing.{view-nothing, view-record, viewed-sized, viewed-task}
+use Rattle.view.proofs.view.Statement.{statement}
+use Rattle.view.proofs.view.Tie as tie
 
 passed : (c : tie.Else1) → let a = c .before .before .before .before .args in isAccepted (checkView (a .file .now) (a .k)) ≡ true
 passed c = rw (c .before .before .view-refusal .ensures) at (eq-eqb _ _ (c .if1 .left))
@@ -23,7 +23,7 @@ record-in-requires c κs =
     let asked = viewed-task _ _ (passed e) in
     omega (
       arith,
-      viewed-length _ _ (passed e),
+      viewed-sized _ _ (passed e) .sized,
       length-is (formIn s) (coresIn s) (tasksIn s),
       record-within (formIn s) (coresIn s) (c .size .result - 1) (tasksIn s) (omega arith),
     )

@@ -1,8 +1,8 @@
 -- The table of a whole file, field by field. Assumes nothing.
 use borrow.Author.Needs.{needs}
 use Rattle.rules.specs.File.{decode}
-use Rattle.fields.proofs.table_in.Statement.{statement}
-use Rattle.fields.proofs.table_in.Tie as tie
+use Rattle.file.proofs.table_in.Statement.{statement}
+use Rattle.file.proofs.table_in.Tie as tie
 
 returns : tie.Need-returns
 unfolding decode

@@ -7,9 +7,10 @@ use borrow.Author.Needs.{needs}
 use borrow.Author.Tests.{eq-eqb, ne-eqb}
 use Rattle.rules.specs.Chain.{isAccepted}
 use Rattle.rules.specs.Operations.{checkFile}
-use Rattle.file.proofs.Reading.{file-sized, view-refused, asked-out, asked-in}
-use Rattle.file.proofs.view_refusal.Statement.{statement}
-use Rattle.file.proofs.view_refusal.Tie as tie
+use Rattle.file.proofs.Reading.{file-sized}
+use Rattle.view.proofs.Viewing.{view-refused, asked-out, asked-in}
+use Rattle.view.proofs.view_refusal.Statement.{statement}
+use Rattle.view.proofs.view_refusal.Tie as tie
 
 passed : (c : tie.Else1) → isAccepted (checkFile (c .before .before .before .before .args .file .now)) ≡ true
 passed c = rw (c .before .before .check .ensures) at (eq-eqb _ _ (c .if1 .left))
