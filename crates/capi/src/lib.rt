@@ -1,6 +1,7 @@
 // The C interface: include/ryeobadum.h. A `&[u8]` is a pointer and then a length.
 ghost use mathlib.Core.Path.{_≡_};
 ghost use mathlib.Core.Bool.{cond};
+ghost use Rattle.rules.specs.File.{checkWhole};
 ghost use Rattle.rules.specs.Operations.{checkFile, checkView};
 ghost use Rattle.rules.specs.Listing.{listing};
 ghost use Rattle.text.specs.Put.{Given};
@@ -16,6 +17,14 @@ pub extern "C" fn ryb_read(file: &[u8]) -> u16
     ensures { λ r. ⌜ r ≡ codeOf (checkFile (now (file .entry))) ⌝ }
 {
     plain::code(file::check(file))
+}
+
+// Did it come whole? The refusal where it did not, 1 to 4; else 0, whatever its figures are.
+#[no_mangle]
+pub extern "C" fn ryb_whole(file: &[u8]) -> u16
+    ensures { λ r. ⌜ r ≡ codeOf (checkWhole (now (file .entry))) ⌝ }
+{
+    plain::code(arrival::whole(file))
 }
 
 // How many tasks it has, 0 where it is refused.
@@ -54,7 +63,7 @@ pub extern "C" fn ryb_list(file: &[u8], out: &mut [u8]) -> usize
 pub extern "C" fn ryb_view(file: &[u8], task: u8) -> u16
     ensures { λ r. ⌜ r ≡ codeOf (checkView (now (file .entry)) task) ⌝ }
 {
-    plain::code(file::view_refusal(file, task))
+    plain::code(view::view_refusal(file, task))
 }
 
 // Where a task's record starts in the file, 0 where there is none.

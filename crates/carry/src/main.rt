@@ -89,7 +89,7 @@ fn note_difference(d: Change, bus: bool) {
 
 fn refuse(number: u8, was: Refusal, is: Refusal) -> u8 {
     let mut out = [0u8; 29];
-    let n = listing::refused(number, &mut out);
+    let n = receipt::refused(number, &mut out);
     if !console::say(b"carry: ", front(&out, n)) {
         return 3;
     }

@@ -39,15 +39,20 @@ fn rewrite(table: Table, file: &[u8], out: &mut [u8]) -> usize {
     accepted(out, n, check::same(front(&room, n), file))
 }
 
+// H: did a file come whole?
+fn came(file: &[u8], out: &mut [u8]) -> usize {
+    put_outcome(out, arrival::whole(file), b"whole")
+}
+
 // V: a task's record in a file.
 fn view(payload: &[u8], out: &mut [u8]) -> usize {
     let k = raw::byte(payload, 0);
     let file = raw::from(payload, 1);
-    let refusal = file::view_refusal(file, k);
+    let refusal = view::view_refusal(file, k);
     if refusal.number != 0 {
         return refused(out, refusal);
     }
-    put_part(out, file::view(file, k))
+    put_part(out, view::view(file, k))
 }
 
 // The sum of (place from 1) times (byte): the sum of what stands from each place to the end.
@@ -158,6 +163,7 @@ fn list_raw(payload: &[u8], out: &mut [u8]) -> usize {
 fn one_line(letter: u8, payload: &[u8], out: &mut [u8]) -> usize {
     match letter {
         b'R' => reread(payload, out),
+        b'H' => came(payload, out),
         b'V' => view(payload, out),
         b'W' => write(payload, out),
         b'J' => judge_one(payload, out),

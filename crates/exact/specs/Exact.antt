@@ -19,7 +19,7 @@ use Rattle.rules.specs.Timing.{Row}
 use Rattle.rules.specs.Refusals.{checkTiming, checkBus, boardRefusal, checkBoard, checkTasks, checkTable, checkJudged, checkStart}
 use Rattle.rules.specs.File.{checkWhole}
 use Rattle.rules.specs.Operations.{checkFile, reading, checkView, viewing, judgeOne, judgeAll}
-use Rattle.rules.specs.Listing.{refusedLine, tableText, listing}
+use Rattle.rules.specs.Listing.{refusedLine, tableText, listing, receipt}
 use Rattle.order.specs.declared.Change.{Change}
 use Rattle.order.specs.Difference as Difference
 use Rattle.judge.specs.Starts.{inPicos}
@@ -32,6 +32,7 @@ use Rattle.recarry.specs.declared.CarryRefusal.{CarryRefusal}
 use Rattle.recarry.specs.Files.{carryRefusal, carryCode, CarriedFiles, filesWorsen}
 use Rattle.reasons.specs.Reasons.{reasonText}
 use Rattle.shown.specs.Shown.{taskCount, recordPlace}
+use Rattle.receipt.specs.Status.{receiptStatus}
 use Rattle.status.specs.Status.{fileStatus}
 
 -- a promise that allows one result; of an operation that is lent buffers, the result with their final bytes
@@ -39,7 +40,7 @@ abbrev pub Exact : {A : Type 0} → (A → Type 0) → Type 0
 Exact {A} allowed = (a b : A) → allowed a → allowed b → a ≡ b
 
 pub record Promises : Type 0 where
-  -- whole, file and writer
+  -- arrival, file, view and writer
   pub whole : (s : List ℕ) → Exact (λ (r : Refusal). r ≡ checkWhole s)
   pub check-file : (s : List ℕ) → Exact (λ (r : Refusal). r ≡ checkFile s)
   pub read : (s : List ℕ) → Exact (λ (r : Read). r ≡ reading s)
@@ -71,7 +72,10 @@ pub record Promises : Type 0 where
   -- listing
   pub list : (s out : List ℕ) → Exact (λ (r : ℕ × List ℕ). Given (listing s) out (r .0) (r .1))
   pub lines : (t : Table) (answers : List Answer) (out : List ℕ) → Exact (λ (r : ℕ × List ℕ). Given (tableText t answers) out (r .0) (r .1))
+  -- receipt
   pub refused : (number : ℕ) (out : List ℕ) → Exact (λ (r : ℕ × List ℕ). Given (refusedLine number) out (r .0) (r .1))
+  pub receipt-line : (s out : List ℕ) → Exact (λ (r : ℕ × List ℕ). Given (receipt s) out (r .0) (r .1))
+  pub receipt-status : (s : List ℕ) → Exact (λ (r : ℕ). r ≡ receiptStatus s)
   -- status
   pub of-file : (s : List ℕ) → Exact (λ (r : ℕ). r ≡ fileStatus s)
   -- judged
@@ -89,6 +93,7 @@ pub record Promises : Type 0 where
   pub record-place : (s : List ℕ) (k : ℕ) → Exact (λ (r : ℕ). r ≡ recordPlace s k)
   -- the C interface
   pub ryb-read : (s : List ℕ) → Exact (λ (r : ℕ). r ≡ codeOf (checkFile s))
+  pub ryb-whole : (s : List ℕ) → Exact (λ (r : ℕ). r ≡ codeOf (checkWhole s))
   pub ryb-tasks : (s : List ℕ) → Exact (λ (r : ℕ). r ≡ taskCount s)
   pub ryb-judge : (s starts bounds rounds by : List ℕ)
       → Exact (λ (r : ℕ × List ℕ × List ℕ × List ℕ). (r .0 ≡ codeOf (checkJudgedFile s starts bounds rounds by)) × JudgedFile s starts bounds rounds by (r .1) (r .2) (r .3))

@@ -11,7 +11,7 @@ use lib.Seq.{getD-take, length-take-le, take-all}
 use borrow.Author.Tests.{le-ltb, ltb-true, ltb-false, ne-eqb}
 use Rattle.rules.specs.Chain.{refused}
 use Rattle.rules.specs.File.{setsAt, recordsAt, recordSize, fileLength, coresIn, tasksIn, formIn, checkWhole}
-use Rattle.rules.specs.Operations.{emptyTable, checkFile, reading}
+use Rattle.rules.specs.Operations.{emptyTable, reading}
 use Rattle.rules.specs.Listing.{listing}
 use Rattle.input.specs.StandsFor.{StandsFor}
 
@@ -30,7 +30,7 @@ module _ (s : List ℕ) (cores : coresIn s < 256) (tasks : tasksIn s < 256) (lon
       rw (le-ltb (length s) 46 (omega arith), ne-eqb (length s) asked (λ e. omega arith))
 
   refused-so : reading s ≡ record { refusal = refused 2 0; table = emptyTable }
-  unfolding reading checkFile
+  unfolding reading
   refused-so = rw wrong-length
 
 -- two such inputs stand for each other

@@ -1,11 +1,11 @@
 // The listing (RULES 8): its bytes for a table with its answers, and for a table file, into a lent buffer.
 use misses::first_miss;
 use misses::put_last;
+use receipt::refused;
 use rows::put_rows;
 use rules::Answer;
 use rules::Table;
 use text::give;
-use text::put_phrase;
 use text::put_word;
 ghost use mathlib.Core.Path.{_≡_};
 ghost use mathlib.Core.Bool.{true};
@@ -52,16 +52,6 @@ pub fn lines(t: Table, answers: [Answer; 32], out: &mut [u8]) -> usize
         return refused(refusal.number, out);
     }
     accepted_lines(t, answers, out)
-}
-
-// The line of a refusal (RULES 8.2), likewise.
-pub fn refused(number: u8, out: &mut [u8]) -> usize
-    ensures { λ r. ⌜ Given (refusedLine number) (now (out .entry)) r (now (out .exit)) ⌝ }
-    ensures { λ _. ⌜ length (refusedLine number) ≤ 29 ⌝ }
-{
-    let mut made = [0u8; 29];
-    let n = put_phrase(&mut made, 0, b"refused ", number as u64, b'\n');
-    give(&made[..n], out)
 }
 
 // A table that was read, judged from nothing. It is not checked again.

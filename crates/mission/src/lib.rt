@@ -2,15 +2,17 @@
 // what it gives and then the sentence. Nobody has to call these; they are here to be proved.
 ghost use mathlib.Core.Path.{_≡_};
 ghost use mathlib.Core.Logic.{_≢_};
-ghost use mathlib.Core.Bool.{false};
+ghost use mathlib.Core.Bool.{true, false};
 ghost use Prim.Native.Nat.{_<_};
 ghost use lib.ListN.{length, take, getD, set, replicate};
 ghost use Rattle.rules.specs.Chain.{accepted, isAccepted};
+ghost use Rattle.rules.specs.File.{checkWhole};
 ghost use Rattle.rules.specs.Operations.{checkFile, reading, writing, outAfter, judgeAll, freshStarts, rejudging};
 ghost use Rattle.claims.specs.Files.{AcceptedFile, AcceptedTable, cleared};
 ghost use Rattle.claims.specs.Point3.{NewerWorse};
 ghost use Rattle.mission.specs.Written.{writtenTo, WrittenBack};
 ghost use Rattle.mission.specs.Judged.{JudgedRight, CarriedRight};
+use line::front;
 use rules::AllJudged;
 use rules::Picos;
 use rules::Read;
@@ -29,16 +31,39 @@ pub fn cut_short(file: &[u8], n: usize) -> Refusal
     file::check(file)
 }
 
+// Byte i becomes b, where there is one.
+fn alter(file: &mut [u8], i: usize, b: u8)
+    ensures { λ _. ⌜ now (file .exit) ≡ set (now (file .entry)) i b ⌝ }
+{
+    if file.len() <= i {
+        return;
+    }
+    file[i] = b;
+}
+
 // Point 1, a file with one byte altered: byte i becomes b.
 pub fn altered(file: &mut [u8], i: usize, b: u8) -> Refusal
     ensures { λ r. ⌜ (now (file .exit) ≡ set (now (file .entry)) i b) × (r ≡ checkFile (now (file .exit))) ⌝ }
     ensures { λ r. ⌜ (AcceptedFile (now (file .entry)) → i < length (now (file .entry)) → b ≢ getD (now (file .entry)) i 0 → isAccepted r ≡ false) ⌝ }
 {
-    if file.len() <= i {
-        return file::check(file);
-    }
-    file[i] = b;
+    alter(file, i, b);
     file::check(file)
+}
+
+// Point 1 of a file that came whole and is cut short, or has one byte altered: it did not come whole.
+pub fn whole_cut_short(file: &[u8], n: usize) -> Refusal
+    ensures { λ r. ⌜ r ≡ checkWhole (take n (now (file .entry))) ⌝ }
+    ensures { λ r. ⌜ (isAccepted (checkWhole (now (file .entry))) ≡ true → n < length (now (file .entry)) → isAccepted r ≡ false) ⌝ }
+{
+    arrival::whole(front(file, n))
+}
+
+pub fn whole_altered(file: &mut [u8], i: usize, b: u8) -> Refusal
+    ensures { λ r. ⌜ (now (file .exit) ≡ set (now (file .entry)) i b) × (r ≡ checkWhole (now (file .exit))) ⌝ }
+    ensures { λ r. ⌜ (isAccepted (checkWhole (now (file .entry))) ≡ true → i < length (now (file .entry)) → b ≢ getD (now (file .entry)) i 0 → isAccepted r ≡ false) ⌝ }
+{
+    alter(file, i, b);
+    arrival::whole(file)
 }
 
 // Point 2, a table that is written and read. No accepted table takes more than 990 bytes.

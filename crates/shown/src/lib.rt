@@ -13,11 +13,11 @@ pub fn task_count(file: &[u8]) -> usize
     places::size(file[2])
 }
 
-// Where a task's record starts in the file, 0 where there is none: the position of what `file::view` shows.
+// Where a task's record starts in the file, 0 where there is none: the position of what `view::view` shows.
 pub fn record_place(file: &[u8], task: u8) -> usize
     ensures { λ r. ⌜ r ≡ recordPlace (now (file .entry)) task ⌝ }
 {
-    let refusal = file::view_refusal(file, task);
+    let refusal = view::view_refusal(file, task);
     if refusal.number != 0 {
         return 0;
     }

@@ -20,7 +20,7 @@ use Rattle.rules.specs.Operations.{reading, judgeAll, freshStarts}
 use Rattle.rules.specs.Listing.{isMiss}
 use Rattle.facts.proofs.AllStarts.{none-refused, all-answered, all-fresh, fresh-starts}
 use Rattle.facts.proofs.Points.{fresh-right}
-use Rattle.facts.proofs.Reading.{read-accepted}
+use Rattle.facts.proofs.Reading.{refusal-read, read-accepted}
 use Rattle.status.specs.Status.{held, allHold, fileStatus}
 use Rattle.status.specs.Tied.{HasBound, IsTask, TiedToBounds}
 use Rattle.status.proofs.Decided.{refused-status, accepted-status}
@@ -73,8 +73,7 @@ module _ (s : List ℕ) where
   Accepted = isAccepted (reading s .refusal) ≡ true
 
   task-bound : Accepted → (k : ℕ) → IsTask s k → (held answers k ≡ true) ↔ HasBound s k
-  unfolding reading
-  task-bound a k task = held-bound table (read-accepted s a) k (task .0) (task .1)
+  task-bound a k task = held-bound table (read-accepted s (rw (refusal-read s) at a)) k (task .0) (task .1)
 
   all-bound : Accepted → (allHold (table .tasks) answers ≡ true) ↔ ((k : ℕ) → IsTask s k → HasBound s k)
   unfolding allHold

@@ -6,7 +6,7 @@ use Prim.Native.Nat.{ℕ}
 use Rattle.rules.specs.Chain.{isAccepted}
 use Rattle.rules.specs.File.{tasksIn, decode}
 use Rattle.rules.specs.Operations.{checkFile, reading, judgeAll, freshStarts}
-use Rattle.facts.proofs.Reading.{read-table}
+use Rattle.facts.proofs.Reading.{refusal-read, read-table}
 use Rattle.status.specs.Status.{allHold, statusOf, fileStatus}
 
 module _ (s : List ℕ) where
@@ -21,9 +21,8 @@ module _ (s : List ℕ) where
 
   -- as code finds it in the bytes
   pub status-refused : isAccepted (checkFile s) ≡ false → fileStatus s ≡ 2
-  unfolding reading
-  status-refused = refused-status
+  status-refused e = refused-status (rw (refusal-read s) e)
 
   pub status-accepted : isAccepted (checkFile s) ≡ true → fileStatus s ≡ cond (allHold (tasksIn s) (judgeAll (decode s) freshStarts .answers)) 0 1
-  unfolding reading decode
-  status-accepted e = rw (read-table s e) at (accepted-status e)
+  unfolding decode
+  status-accepted e = rw (read-table s e) at (accepted-status (rw (refusal-read s) e))

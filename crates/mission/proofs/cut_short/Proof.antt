@@ -3,16 +3,15 @@ use borrow.Author.Needs.{needs}
 use mathlib.Core.Path.{sym}
 use native.Mathlib.Omega.{arith}
 use lib.Seq.{length-take-le, take-all}
-use Rattle.rules.specs.Operations.{reading}
-use Rattle.claims.proofs.Files.{damage}
+use Rattle.facts.proofs.Reading.{refusal-read}
+use Rattle.claims.proofs.Files.{point-one}
 use Rattle.mission.proofs.cut_short.Statement.{statement}
 use Rattle.mission.proofs.cut_short.Tie as tie
 
 returns : tie.Need-returns
-unfolding reading
 returns c =
     let a = c .before .before .before .before .args in
-    (c .check .ensures, λ whole short. rw (c .check .ensures) (damage .cut-short (a .file .now) whole (a .n) short))
+    (c .check .ensures, λ whole short. rw (c .check .ensures, ← refusal-read _) (point-one .read .cut-short (a .file .now) whole (a .n) short))
 
 returns-2 : tie.Need-returns-2
 returns-2 c =

@@ -5,7 +5,7 @@ use native.Mathlib.Omega.{arith}
 use borrow.Author.Needs.{needs}
 use borrow.Author.Tests.{eq-eqb}
 use Rattle.rules.specs.Operations.{checkView}
-use Rattle.file.proofs.Reading.{viewed-long, viewed-task}
+use Rattle.view.proofs.Viewing.{viewed-sized, viewed-task}
 use Rattle.shown.proofs.Shown.{no-record, record-there}
 use Rattle.shown.proofs.record_place.Statement.{statement}
 use Rattle.shown.proofs.record_place.Tie as tie
@@ -27,6 +27,6 @@ returns-2 c =
 pub record-place-spec : {M : Type 1} → statement M
 record-place-spec =
     tie.close
-    (tie.spec (λ c κs. search needs) returns (λ c. omega (arith, viewed-long _ _ (eq-eqb _ _ (passes (c .before)))))
-    (λ c. omega (arith, viewed-long _ _ (eq-eqb _ _ (passes (c .before .before))))) (λ c κs. search needs)
+    (tie.spec (λ c κs. search needs) returns (λ c. omega (arith, viewed-sized _ _ (eq-eqb _ _ (passes (c .before))) .long))
+    (λ c. omega (arith, viewed-sized _ _ (eq-eqb _ _ (passes (c .before .before))) .long)) (λ c κs. search needs)
     (λ c. omega (arith, c .size .ensures, viewed-task _ _ (eq-eqb _ _ (passes (c .before .before .before))))) (λ c κs. search needs) returns-2)

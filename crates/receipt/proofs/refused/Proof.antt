@@ -5,8 +5,8 @@ use borrow.Author.Needs.{needs}
 use lib.Seq.{length-take-le}
 use Rattle.text.proofs.Put.{front-length, front}
 use Rattle.rules.specs.Listing.{refusedLine}
-use Rattle.listing.proofs.refused.Statement.{statement}
-use Rattle.listing.proofs.refused.Tie as tie
+use Rattle.receipt.proofs.refused.Statement.{statement}
+use Rattle.receipt.proofs.refused.Tie as tie
 
 returns : tie.Need-returns
 unfolding refusedLine

@@ -1,0 +1,3 @@
+-- What the proofs of two functions stand on.
+--     OneByte  a file with one byte altered
+pub mod OneByte
