@@ -16,13 +16,14 @@ use Rattle.laws.specs.Bytes.{Bytes}
 use Rattle.laws.proofs.Tests.{fails}
 use Rattle.rules.proofs.EveryRule.{every-rule}
 use Rattle.facts.proofs.Chain.{both-accepted, no-fault}
-use Rattle.facts.proofs.Reading.{reading-is, refusal-read, file-whole, decoded-accepted, read-table, read-accepted}
+use Rattle.facts.proofs.Reading.{reading-is, refusal-read, decoded-accepted, read-table, read-accepted}
 use Rattle.claims.specs.Files.{AcceptedFile, AcceptedTable, Check, readCheck, Damage, PointOne, Shape, cleared, Return, ReturnInPlace, OneToOne, NotEmpty}
 use Rattle.arrival.proofs.Came.{whole, came-whole}
 use Rattle.claims.proofs.Damage.{not-cut, not-altered}
 use Rattle.claims.proofs.FromFile.{already-cleared, shape-of-read, written-again}
 use Rattle.claims.proofs.FromTable.{file-small, encode-whole, read-again}
 use Rattle.claims.proofs.NoRefusal.{table-plain}
+use Rattle.claims.proofs.Parts.{accepted-whole}
 use Rattle.claims.proofs.Cleared.{cleared-same}
 
 -- ---- an accepted file
@@ -30,11 +31,8 @@ use Rattle.claims.proofs.Cleared.{cleared-same}
 checked : (s : List ℕ) → AcceptedFile s → isAccepted (checkFile s) ≡ true
 checked s ok = rw (refusal-read s) at ok
 
-came : (s : List ℕ) → AcceptedFile s → isAccepted (checkWhole s) ≡ true
-came s ok = file-whole s (checked s ok)
-
 read-written-back : (s : List ℕ) → AcceptedFile s → Bytes s → encode (reading s .table) ≡ s
-read-written-back s ok b = rw (read-table s (checked s ok)) (written-again b (whole s (came s ok)))
+read-written-back s ok b = rw (read-table s (checked s ok)) (written-again b (whole s (accepted-whole s ok)))
 
 -- what a check accepts of files that came whole only, cannot be cut or altered either
 damaged : (check : Check) → ((s : List ℕ) → isAccepted (check s) ≡ true → isAccepted (checkWhole s) ≡ true) → Damage check
@@ -45,7 +43,7 @@ damaged check only = record {
 }
 
 pub point-one : PointOne
-point-one = record { whole = damaged checkWhole (λ s ok. ok); read = damaged readCheck came }
+point-one = record { whole = damaged checkWhole (λ s ok. ok); read = damaged readCheck accepted-whole }
 
 -- ---- an accepted table
 

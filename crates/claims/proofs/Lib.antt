@@ -9,9 +9,9 @@
 --     FromTable  the file of an accepted table is whole and gives that table
 --     Cleared    a table and the same table cleared meet the same refusals
 --     NoRefusal  which numbers a check gives; where nothing is refused, number and place are 0
+--     Parts      reading in its two parts
 --     Files      the demands on table files
 -- and beside them
---     Parts      reading in its two parts
 --     Refused    what a refused operation gives
 --     Point2     what a verdict says
 --     Point3     a newer table judged from the older one's bounds
@@ -27,8 +27,8 @@ pub mod Widths
 pub mod FromTable
 pub mod Cleared
 pub mod NoRefusal
-pub mod Files
 pub mod Parts
+pub mod Files
 pub mod Refused
 pub mod Point2
 pub mod Point3

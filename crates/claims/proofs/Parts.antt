@@ -52,6 +52,9 @@ module _ (s : List ℕ) where
           let same = ap (λ (r : Refusal). r .number) (first-tells e) in
           sym e ∙ eq-eqb (checkWhole s .number) 0 (same ∙ only-zero told (rw same at (first-of (whole-gives s) .0)))
 
+  pub accepted-whole : isAccepted (reading s .refusal) ≡ true → isAccepted (checkWhole s) ≡ true
+  accepted-whole ok = file-whole s (rw (refusal-read s) at ok)
+
   pub two-parts : TwoParts s
   unfolding taking
   two-parts = record {
@@ -59,6 +62,6 @@ module _ (s : List ℕ) where
     second = second-of (table-gives (decode s));
     exactly = (λ came. rw (second-tells came) (above (checkTable (decode s)) (second-of (table-gives (decode s)))), told-whole);
     otherwise = first-tells;
-    accepted = λ ok. file-whole s (rw (refusal-read s) at ok);
+    accepted = accepted-whole;
     as-one = reading-is s;
   }

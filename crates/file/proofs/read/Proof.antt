@@ -6,15 +6,12 @@ use Rattle.file.proofs.Reading.{read-not-whole, read-whole}
 use Rattle.file.proofs.read.Statement.{statement}
 use Rattle.file.proofs.read.Tie as tie
 
-returns : tie.Need-returns
-returns c =
-    let came = c .before .before .before .whole .ensures in
-    c .read-nothing .ensures ∙ rw came (read-not-whole _ (refuses came (c .before .if1 .taken)))
-
-returns-2 : tie.Need-returns-2
-returns-2 c = c .take .ensures ∙ read-whole _ (passes (c .before .before .before .whole .ensures) (c .before .if1 .left))
-
 pub read-spec : {M : Type 1} → statement M
 read-spec =
     tie.close
-    (tie.spec (λ c κs. search needs) (λ c κs. search needs) returns (λ c κs. passes (c .before .before .whole .ensures) (c .if1 .left)) returns-2)
+    (tie.spec (λ c κs. search needs) (λ c κs. search needs)
+    (λ c.
+    let came = c .before .before .before .whole .ensures in
+    c .read-nothing .ensures ∙ rw came (read-not-whole _ (refuses came (c .before .if1 .taken))))
+    (λ c κs. passes (c .before .before .whole .ensures) (c .if1 .left))
+    (λ c. c .take .ensures ∙ read-whole _ (passes (c .before .before .before .whole .ensures) (c .before .if1 .left))))
