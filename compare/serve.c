@@ -93,6 +93,8 @@ static uint64_t make(const struct head *h)
     switch (h->letter) {
     case 'r':
         return ryb_read(f, h->file_n);
+    case 'h':
+        return ryb_whole(f, h->file_n);
     case 't':
         return ryb_tasks(f, h->file_n);
     case 'j':

@@ -79,6 +79,15 @@ enum {
 uint16_t ryb_read(const uint8_t *file, size_t n);
 
 /*
+ * Asks whether the table file in file[0..n) came whole: whether it is as long as its header says, and its trailer has its length
+ * and its two sums. Figures are not looked at: a whole file may still be refused by ryb_read, by 5 to 11 or 16.
+ *
+ * Returns 0 where it came whole, else the refusal (1 to 4), which is ryb_read's too. A whole file that is cut short, or has any one
+ * byte altered, is not whole. Writes nothing.
+ */
+uint16_t ryb_whole(const uint8_t *file, size_t n);
+
+/*
  * Counts the tasks of the table file in file[0..n).
  *
  * Returns how many it has, 1 to RYB_MAX_TASKS. Returns 0, which no accepted file has, where ryb_read refuses it. Writes nothing.

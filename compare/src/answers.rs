@@ -14,6 +14,11 @@ pub fn read(bytes: &[u8]) -> u16 {
     code(file::read(bytes).map(|_| ()))
 }
 
+/// `ryb_whole`.
+pub fn whole(bytes: &[u8]) -> u16 {
+    code(file::whole(bytes))
+}
+
 /// `ryb_tasks`.
 pub fn tasks(bytes: &[u8]) -> usize {
     file::read(bytes).map_or(0, |table| table.tasks().len())

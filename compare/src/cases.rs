@@ -438,10 +438,11 @@ fn reaches(rng: &mut Rng, tasks: usize) -> Reaches {
     reaches
 }
 
-/// Cut at every length: as it is, and with a new trailer. Then with bytes after it.
+/// A whole file cut at every length: as it is, and with a new trailer. Then with bytes after it.
 fn cuts(on: &mut Comparer, file: &[u8]) -> Outcome {
     for length in 0..file.len() {
         let mut cut = file[..length].to_vec();
+        on.damaged(&cut)?;
         calls(on, &cut)?;
         if length >= SHORTEST {
             file::seal(&mut cut);
@@ -461,10 +462,13 @@ fn records(on: &mut Comparer, file: &[u8]) -> Outcome {
     (0..=u8::MAX).try_for_each(|number| view(on, file, number))
 }
 
-/// One byte altered: as it is, and with a trailer that fits it.
+/// A whole file with one byte altered: as it is, and with a trailer that fits it.
 fn altered(on: &mut Comparer, file: &[u8], at: usize, value: u8) -> Outcome {
     let mut file = file.to_vec();
-    file[at] = value;
+    let was = std::mem::replace(&mut file[at], value);
+    if was != value {
+        on.damaged(&file)?;
+    }
     calls(on, &file)?;
     file::seal(&mut file);
     calls(on, &file)

@@ -65,6 +65,7 @@ pub struct Verdicts {
 pub struct Tally {
     pub calls: u64,
     pub accepted: u64,
+    pub only_whole: u64,
     pub refused: BTreeMap<u16, u64>,
     pub dram: Verdicts,
     pub bus: Verdicts,
@@ -103,12 +104,33 @@ impl Comparer {
         Comparer { library, filler: Rng::new(0), tally: Tally::default() }
     }
 
-    /// `ryb_read`; answers the refusal, 0 where accepted.
+    /// `ryb_read`, and `ryb_whole`, which gives the same refusal where that is one of 1 to 4, and else none; answers the former's, 0 where
+    /// accepted.
     pub fn read(&mut self, file: &[u8]) -> Result<u16, Difference> {
         let own = answers::read(file);
         let theirs = self.library.read(file);
         self.count(own);
-        same(theirs, own, file, || "ryb_read".to_owned())
+        let read = same(theirs, own, file, || "ryb_read".to_owned())?;
+        let whole = self.whole(file)?;
+        self.tally.only_whole += u64::from(whole == 0 && read != 0);
+        let first_part = if read <= 4 { read } else { 0 };
+        same(Ok(whole), first_part, file, || format!("ryb_whole, where ryb_read gives {read}"))?;
+        Ok(read)
+    }
+
+    /// `ryb_whole`; answers the refusal, 0 where the file came whole.
+    pub fn whole(&mut self, file: &[u8]) -> Result<u16, Difference> {
+        let own = answers::whole(file);
+        let theirs = self.library.whole(file);
+        self.count(own);
+        same(theirs, own, file, || "ryb_whole".to_owned())
+    }
+
+    /// `ryb_whole` of a file that was whole, and was then cut short or had one byte altered: it isn't (RULES 7.6).
+    pub fn damaged(&mut self, file: &[u8]) -> Result<(), Difference> {
+        let refused = self.whole(file)? != 0;
+        same(Ok(refused), true, file, || "ryb_whole of a damaged file".to_owned())?;
+        Ok(())
     }
 
     /// `ryb_tasks`; answers the count, 0 where refused.

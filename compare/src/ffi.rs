@@ -8,6 +8,7 @@ use crate::library::{Lent, Library};
 #[link(name = "capi", kind = "static")]
 extern "C" {
     fn ryb_read(file: *const u8, n: usize) -> u16;
+    fn ryb_whole(file: *const u8, n: usize) -> u16;
     fn ryb_tasks(file: *const u8, n: usize) -> usize;
     fn ryb_judge(
         file: *const u8,
@@ -46,6 +47,11 @@ impl Library for Linked {
     fn read(&mut self, file: &[u8]) -> io::Result<u16> {
         // SAFETY: the pointer and the length are those of a slice.
         Ok(unsafe { ryb_read(start(file), file.len()) })
+    }
+
+    fn whole(&mut self, file: &[u8]) -> io::Result<u16> {
+        // SAFETY: the pointer and the length are those of a slice.
+        Ok(unsafe { ryb_whole(start(file), file.len()) })
     }
 
     fn tasks(&mut self, file: &[u8]) -> io::Result<usize> {

@@ -4,7 +4,7 @@ use crate::answers;
 use crate::carry;
 use crate::delay::Delays;
 use crate::dram::{Timing, DDR3_1333};
-use crate::file::{self, LONGEST, LONGEST_BY_HEADER, RECORD, SETS_AT};
+use crate::file::{self, LONGEST, LONGEST_BY_HEADER, RECORD, SETS_AT, SHORTEST};
 use crate::judge::{Answer, By, Judge, Verdict};
 use crate::listing::listing;
 use crate::refusal::Refusal;
@@ -209,6 +209,29 @@ fn records_and_writing() {
     let mut short = vec![0xA5; file.len() - 1];
     assert_eq!(file::write(&listed(), &mut short), Err(Refusal::plain(15)));
     assert!(short.iter().all(|&byte| byte == 0xA5));
+}
+
+/// RULES 11.11; and that figures are not looked at, nor before the sums are.
+#[test]
+fn whole_or_not() {
+    let file = bytes(&listed());
+    let mut empty = vec![0; SHORTEST];
+    file::seal(&mut empty);
+    assert_eq!([answers::whole(&file), answers::whole(&empty), answers::read(&empty)], [0, 0, 5]);
+    assert_eq!(answers::whole(&file[..136]), 2);
+    let with = |altered: &[(usize, u8)]| {
+        let mut file = file.clone();
+        altered.iter().for_each(|&(at, value)| file[at] = value);
+        file
+    };
+    assert_eq!([(0, 3), (39, 1), (125, 126)].map(|byte| answers::whole(&with(&[byte]))), [2, 4, 3]);
+    let three = with(&[(39, 1), (40, 200), (41, 155)]);
+    assert_eq!(answers::whole(&three), 0);
+    assert_eq!(file::read(&three).map(|table| table.task[0].c), Ok(1_000_065_025));
+    let mut many = with(&[(SETS_AT + 4 + 3 * RECORD - 2, 255)]);
+    assert_eq!([answers::whole(&many), answers::read(&many)], [4, 4]);
+    file::seal(&mut many);
+    assert_eq!([answers::whole(&many), answers::read(&many)], [0, 11 + 3 * 256]);
 }
 
 #[test]

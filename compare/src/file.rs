@@ -26,7 +26,7 @@ pub const fn record_at(cores: usize, number: usize) -> usize {
 
 /// The table of a file, or the first of refusals 1 to 11 and 16 that applies.
 pub fn read(file: &[u8]) -> Result<Table, Refusal> {
-    check_envelope(file)?;
+    whole(file)?;
     let [cores, partitions, tasks, fourth] = part(file, 0);
     let mut table = Table { cores, partitions, tasks, fourth, ..Table::default() };
     table.check_header()?;
@@ -73,8 +73,8 @@ pub fn seal(file: &mut [u8]) {
     trailer[8..].copy_from_slice(&(running as u32).to_le_bytes());
 }
 
-/// Refusals 1 to 4, in their order.
-fn check_envelope(file: &[u8]) -> Result<(), Refusal> {
+/// Did a file come whole? Else the first of refusals 1 to 4 that applies.
+pub fn whole(file: &[u8]) -> Result<(), Refusal> {
     if file.len() < SHORTEST {
         return Err(Refusal::plain(1));
     }

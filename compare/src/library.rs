@@ -25,6 +25,8 @@ impl<'a, T> Lent<'a, T> {
 pub trait Library {
     fn read(&mut self, file: &[u8]) -> io::Result<u16>;
 
+    fn whole(&mut self, file: &[u8]) -> io::Result<u16>;
+
     fn tasks(&mut self, file: &[u8]) -> io::Result<usize>;
 
     fn judge(

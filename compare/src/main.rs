@@ -48,12 +48,13 @@ fn check(seed: u64, count: u64, serve: &[String]) -> Result<ExitCode, Box<dyn Er
 
 fn summary(seed: u64, count: u64, tally: &Tally) -> String {
     format!(
-        "compare: {} calls agree (seed {seed}, {count} random tables): {} accepted, {} refused; tasks of DRAM tables {}, \
+        "compare: {} calls agree (seed {seed}, {count} random tables): {} accepted, {} refused; {} files whole and yet refused; tasks of DRAM tables {}, \
          of bus tables {}, at most {} rounds; {} listings, {} too long for their room; {} records; \
          {} pairs of files, {} of them worsened",
         tally.calls,
         tally.accepted,
         tally.refused.values().sum::<u64>(),
+        tally.only_whole,
         verdicts(&tally.dram),
         verdicts(&tally.bus),
         tally.most_rounds,
@@ -74,6 +75,9 @@ fn lack(tally: &Tally) -> Option<String> {
     let never_met = never_met(tally);
     if !never_met.is_empty() {
         return Some(format!("refusals {never_met:?} were never met"));
+    }
+    if tally.only_whole == 0 {
+        return Some("no file was whole and yet refused".to_owned());
     }
     if tally.worsened == 0 {
         return Some("no pair was one worsened".to_owned());

@@ -59,6 +59,10 @@ impl Library for Served {
         Ok(self.call(b'r', 0, Inputs::file(file), Outputs::bytes(Lent::nothing()))? as u16)
     }
 
+    fn whole(&mut self, file: &[u8]) -> io::Result<u16> {
+        Ok(self.call(b'h', 0, Inputs::file(file), Outputs::bytes(Lent::nothing()))? as u16)
+    }
+
     fn tasks(&mut self, file: &[u8]) -> io::Result<usize> {
         Ok(self.call(b't', 0, Inputs::file(file), Outputs::bytes(Lent::nothing()))? as usize)
     }

@@ -64,6 +64,7 @@ fn next_case(stream: &[u8]) -> Option<(char, &[u8], &[u8])> {
 fn answer(letter: char, payload: &[u8]) -> String {
     match letter {
         'L' => listing(payload),
+        'H' => line(file::whole(payload).map(|()| "whole".to_owned())),
         'R' => line(reading(payload)),
         'V' => line(file::view(&payload[1..], payload[0]).map(|part| format!("part {}", hex(part)))),
         'W' => writing(usize::from(u16::from_le_bytes(part(payload, 0))), &raw(&payload[2..])),
