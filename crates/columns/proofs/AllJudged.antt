@@ -21,7 +21,8 @@ use Rattle.facts.proofs.Starts.{accepted-judged}
 use Rattle.facts.proofs.First.{first-same, none-first}
 use Rattle.facts.proofs.Chain.{both-accepted}
 use Rattle.climb.specs.declared.Climbed.{Climbed}
-use Rattle.rounds.specs.Lent.{Lent, climbedAt, firstAfter, firstLowered, answeredOr, judgedLent}
+use Rattle.unjudged.specs.Unjudged.{firstAfter}
+use Rattle.rounds.specs.Lent.{Lent, climbedAt, firstLowered, answeredOr, judgedLent}
 use Rattle.columns.specs.Numbered.{climbedFor, pricedOf}
 use Rattle.columns.specs.Held.{Held}
 use Rattle.columns.proofs.Holding.{of-climbed, tasks-are}

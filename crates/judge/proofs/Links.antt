@@ -19,7 +19,7 @@ use Rattle.facts.proofs.Starts.{judged-accepted}
 use Rattle.laws.specs.Idioms.{entry, Within}
 use Rattle.laws.proofs.Tests.{inside}
 use Rattle.climb.specs.declared.Climbed.{Climbed}
-use Rattle.rounds.specs.Lent.{noneJudged}
+use Rattle.unjudged.specs.Unjudged.{noneJudged}
 use Rattle.columns.specs.Numbered.{climbedFor, notJudged}
 use Rattle.rules.specs.Chain.{accepted, refused, isAccepted, _orElse_, given}
 

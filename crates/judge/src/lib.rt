@@ -14,7 +14,7 @@ use rules::refused;
 fn not_judged(refusal: Refusal) -> Judged
     ensures { λ r. ⌜ r ≡ notJudged refusal ⌝ }
 {
-    let answer = rounds::missed();
+    let answer = unjudged::missed();
     Judged { refusal, answer }
 }
 
@@ -56,7 +56,7 @@ pub fn judge_all(table: Table, starts: [Picos; 32]) -> AllJudged
 {
     let refusal = admit::table(table);
     if refusal.number != 0 {
-        return rounds::none_judged(refusal);
+        return unjudged::none_judged(refusal);
     }
     columns::judge_tasks(table, numbers(starts))
 }

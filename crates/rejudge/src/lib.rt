@@ -9,7 +9,7 @@ use rules::Table;
 fn not_rejudged(refusal: Refusal, faulty: Faulty) -> Rejudged
     ensures { λ r. ⌜ r ≡ notRejudged refusal faulty ⌝ }
 {
-    let none = rounds::none_judged(refusal);
+    let none = unjudged::none_judged(refusal);
     let answers = none.answers;
     Rejudged {
         refusal,

@@ -15,8 +15,9 @@ use Rattle.rules.specs.Judgement.{misses}
 use Rattle.rules.specs.Chain.{accepted, refused, isAccepted}
 use Rattle.rules.specs.Operations.{noAnswers}
 use Rattle.facts.proofs.First.{Left, left-all, left-hit, left-next, left-none, none-first, first-none}
-use Rattle.rounds.specs.Lent.{Lent, climbedAt, firstLowered, firstAfter, answeredOr, judgedLent}
-use Rattle.rounds.proofs.OnTime.{after}
+use Rattle.rounds.specs.Lent.{Lent, climbedAt, firstLowered, answeredOr, judgedLent}
+use Rattle.unjudged.specs.Unjudged.{firstAfter}
+use Rattle.unjudged.proofs.OnTime.{after}
 
 abbrev pub lowers : Lent → List ℕ → ℕ → Bool
 lowers l starts k = climbedAt l starts k .high

@@ -3,7 +3,6 @@ use Prim.Native.Nat.{ℕ, _+_, _-_, _≤_, _<_}
 use mathlib.Core.Path.{_≡_}
 use mathlib.Core.Bool.{Bool, cond}
 use mathlib.Core.List.{List, map}
-use lib.Dec.{ltb}
 use lib.ListN.{length, getD}
 use Rattle.laws.specs.Idioms.{Within, entry, upTo, filled}
 use Rattle.rules.specs.declared.Refusal.{Refusal}
@@ -18,6 +17,7 @@ use Rattle.terms.specs.declared.Own.{Own}
 use Rattle.climb.specs.declared.Climbed.{Climbed}
 use Rattle.terms.specs.Terms.{Terms, termsOf}
 use Rattle.climb.specs.Run.{Ready, climbed}
+use Rattle.unjudged.specs.Unjudged.{firstAfter}
 use Rattle.rounds.specs.declared.Priced.{Priced}
 
 -- by the tasks' numbers: the core and the latest allowed response; core after core: T, C and H, and where each core's tasks begin
@@ -73,19 +73,9 @@ pub record Judgeable (l : Lent) : Type 0 where
   pub place-low : (i : ℕ) → i < l .board .tasks → placeAt l i ≤ 32
   pub ready : (i start : ℕ) → i < l .board .tasks → start ≤ getD (l .latest) i 0 → Ready (termsAt l i) start
 
-pub record OnTime (n : ℕ) (latest starts : List ℕ) : Type 0 where
-  pub each : (i : ℕ) → i < n → getD starts i 0 ≤ getD latest i 0
-
--- 13 with the first start that is after the latest allowed response; 14 with the first that F lowers
-unfoldable pub firstAfter : ℕ → List ℕ → List ℕ → Refusal
-firstAfter n latest starts = first 13 (λ k. ltb (entry 0 latest k) (entry 0 starts k)) n
-
+-- 14 with the first start that F lowers
 unfoldable pub firstLowered : Lent → List ℕ → Refusal
 firstLowered l starts = first 14 (λ k. climbedAt l starts k .high) (l .board .tasks)
-
--- refused: no answer
-unfoldable pub noneJudged : Refusal → AllJudged
-noneJudged r = record { refusal = r; answers = noAnswers }
 
 -- refused, or an answer a task
 unfoldable pub answeredOr : Lent → List ℕ → Refusal → AllJudged

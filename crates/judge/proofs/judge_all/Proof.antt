@@ -3,7 +3,7 @@ use borrow.Author.Needs.{needs}
 use mathlib.Core.Path.{_∙_, ap}
 use Rattle.facts.proofs.Starts.{judged-accepted}
 use Rattle.facts.proofs.Chain.{passes, refuses}
-use Rattle.rounds.specs.Lent.{noneJudged}
+use Rattle.unjudged.specs.Unjudged.{noneJudged}
 use Rattle.rules.specs.Operations.{judgeAll}
 use Rattle.judge.specs.Starts.{inPicos}
 use Rattle.judge.proofs.Links.{all-table}

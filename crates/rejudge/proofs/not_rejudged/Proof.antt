@@ -3,7 +3,7 @@ use borrow.Author.Needs.{needs}
 use mathlib.Core.Path.{ap}
 use mathlib.Core.Bool.{false}
 use Rattle.rules.specs.declared.AllJudged.{AllJudged}
-use Rattle.rounds.specs.Lent.{noneJudged}
+use Rattle.unjudged.specs.Unjudged.{noneJudged}
 use Rattle.rejudge.specs.Carried.{notRejudged}
 use Rattle.rejudge.proofs.not_rejudged.Statement.{statement}
 use Rattle.rejudge.proofs.not_rejudged.Tie as tie

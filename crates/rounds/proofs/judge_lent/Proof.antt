@@ -8,7 +8,7 @@ use lib.ListN.{getD}
 use Rattle.laws.specs.Idioms.{Within}
 use Rattle.climb.specs.declared.Climbed.{Climbed}
 use Rattle.rounds.specs.Lent.{Lent, lentOf, placeAt, climbedAt}
-use Rattle.rounds.proofs.OnTime.{on-time}
+use Rattle.unjudged.proofs.OnTime.{on-time}
 use Rattle.rounds.proofs.Nexts.{Nexts, nexts-none, nexts-next, next-at}
 use Rattle.rounds.proofs.Here.{here-ready, here-gives, cost-at}
 use Rattle.rounds.proofs.Judging.{Judging, Running, judging-starts, still-running, stops-high, goes-on-low, judging-done}

@@ -10,7 +10,7 @@ use borrow.Author.Tests.{lt-ltb, le-ltb, ltb-false}
 use Rattle.laws.specs.Idioms.{entry}
 use Rattle.rules.specs.Chain.{isAccepted}
 use Rattle.facts.proofs.First.{none-first}
-use Rattle.rounds.specs.Lent.{OnTime, firstAfter}
+use Rattle.unjudged.specs.Unjudged.{OnTime, firstAfter}
 
 abbrev pub after : List ℕ → List ℕ → ℕ → Bool
 after latest starts k = ltb (entry 0 latest k) (entry 0 starts k)

@@ -1,7 +1,7 @@
 -- No answer. Assumes nothing.
 use borrow.Author.Needs.{needs}
-use Rattle.rounds.proofs.no_answers.Statement.{statement}
-use Rattle.rounds.proofs.no_answers.Tie as tie
+use Rattle.unjudged.proofs.no_answers.Statement.{statement}
+use Rattle.unjudged.proofs.no_answers.Tie as tie
 
 returns : tie.Need-returns
 returns c = simp (c .missed .ensures)
