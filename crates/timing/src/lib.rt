@@ -1,11 +1,11 @@
-// A timing row: the supplied one; checks 6 and 7 of a DRAM's, each figure in its range, then the relations between them; check 16 of a bus's.
+// A timing row: the supplied one; checks 6 and 7 of a DRAM's, each figure in its range, which is `ranges`', then the relations between them; check 16 of a bus's.
 ghost use mathlib.Core.Path.{_≡_};
 ghost use Prim.Native.Nat.{_%_, _≤_};
 ghost use Rattle.rules.specs.Timing.{ddr3-1333};
 ghost use Rattle.rules.specs.Chain.{first};
-ghost use Rattle.rules.specs.Refusals.{figureFault, relationFault, checkTiming, busFault, checkBus};
-ghost use Rattle.timing.specs.Ranges.{notBurst, outOfRange, AreRanges};
+ghost use Rattle.rules.specs.Refusals.{relationFault, checkTiming, busFault, checkBus};
 use cycles::figure;
+use ranges::check_ranges;
 use rules::Refusal;
 use rules::refused;
 
@@ -16,54 +16,6 @@ pub fn ddr3_1333() -> [u16; 15]
     ensures { λ r. ⌜ r ≡ ddr3-1333 ⌝ }
 {
     DDR3_1333
-}
-
-// The lowest and highest of a figure.
-pub struct Limits(pub u16, pub u16);
-
-// The ranges of RULES 2.4, in that order. BL has its lowest and highest here; not all between them pass.
-const LIMITS: [Limits; 15] = [
-    Limits(1, 5000),
-    Limits(1, 127),
-    Limits(1, 127),
-    Limits(1, 127),
-    Limits(1, 127),
-    Limits(4, 16),
-    Limits(1, 127),
-    Limits(1, 127),
-    Limits(1, 127),
-    Limits(1, 127),
-    Limits(1, 127),
-    Limits(1, 127),
-    Limits(0, 127),
-    Limits(64, 2048),
-    Limits(0, 65535),
-];
-
-// RULES 2.4: x is no burst length.
-fn not_burst(x: u16) -> bool
-    ensures { λ r. ⌜ r ≡ notBurst x ⌝ }
-{
-    if x == 4 {
-        return false;
-    }
-    if x == 8 {
-        return false;
-    }
-    x != 16
-}
-
-// Is x, figure k, outside its range? Figure 6 is BL.
-fn is_outside(limits: Limits, k: usize, x: u16) -> bool
-    ensures { λ r. ⌜ r ≡ outOfRange (limits .0) (limits .1) k x ⌝ }
-{
-    if x < limits.0 {
-        return true;
-    }
-    if limits.1 < x {
-        return true;
-    }
-    if k == 6 { not_burst(x) } else { false }
 }
 
 // The rules' remainder, which is the number itself where the divisor is 0.
@@ -92,28 +44,6 @@ fn relation_fault(row: [u16; 15], k: u8) -> bool
         return figure(row, cycles::TRCD) + hits::hit(row).0 <= figure(row, cycles::TRAS);
     }
     remainder(figure(row, cycles::NCOLS), figure(row, cycles::BL)) != 0
-}
-
-// In a function of its own, so that the walk is proved without the table's fifteen entries.
-fn all_limits() -> [Limits; 15]
-    ensures { λ r. ⌜ AreRanges r ⌝ }
-{
-    LIMITS
-}
-
-// Refusal 6 (RULES 9.3), with the first figure at fault.
-fn check_ranges(row: [u16; 15]) -> Refusal
-    ensures { λ r. ⌜ r ≡ first 6 (figureFault row) 15 ⌝ }
-{
-    let table = all_limits();
-    let mut i: usize = 0;
-    while i < 15 {
-        if is_outside(table[i], i + 1, row[i]) {
-            return refused(6, (i + 1) as u8);
-        }
-        i += 1;
-    }
-    refused(0, 0)
 }
 
 // Refusal 7 (RULES 9.3), with the first relation at fault.

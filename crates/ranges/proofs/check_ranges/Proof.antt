@@ -4,10 +4,10 @@ use mathlib.Core.Path.{sym, _∙_}
 use borrow.Author.Needs.{needs}
 use Rattle.rules.specs.Refusals.{figureFault}
 use Rattle.facts.proofs.First.{Left, left-all, left-hit, left-next, left-none}
-use Rattle.timing.proofs.Ranges.{fault-at}
-use Rattle.timing.specs.Ranges.{AreRanges}
-use Rattle.timing.proofs.check_ranges.Statement.{statement}
-use Rattle.timing.proofs.check_ranges.Tie as tie
+use Rattle.ranges.proofs.Table.{fault-at}
+use Rattle.ranges.specs.Ranges.{AreRanges}
+use Rattle.ranges.proofs.check_ranges.Statement.{statement}
+use Rattle.ranges.proofs.check_ranges.Tie as tie
 
 abbrev Inv-loop : tie.InvT-loop
 Inv-loop row table i₀ i = Left 6 (figureFault row) 15 i × AreRanges table

@@ -9,8 +9,8 @@ use lib.ListN.{getD, List·getD-map}
 use borrow.Author.Tests.{eqb-true}
 use Rattle.rules.specs.Timing.{Row, BL, ranges}
 use Rattle.rules.specs.Refusals.{figureFault}
-use Rattle.timing.specs.declared.Limits.{Limits}
-use Rattle.timing.specs.Ranges.{notBurst, outOfRange, pair, AreRanges}
+use Rattle.ranges.specs.declared.Limits.{Limits}
+use Rattle.ranges.specs.Ranges.{notBurst, outOfRange, pair, AreRanges}
 
 abbrev none : Limits
 none = record { 0 = 0; 1 = 0 }

@@ -1,7 +1,7 @@
 -- `timing::not_burst` meets its contract, by the values that pass. Assumes nothing.
 use borrow.Author.Tests.{eq-eqb, ne-eqb}
-use Rattle.timing.proofs.not_burst.Statement.{statement}
-use Rattle.timing.proofs.not_burst.Tie as tie
+use Rattle.ranges.proofs.not_burst.Statement.{statement}
+use Rattle.ranges.proofs.not_burst.Tie as tie
 
 returns : tie.Need-returns
 returns c = simp (eq-eqb _ _ (c .if1 .taken))

@@ -6,7 +6,7 @@ use mathlib.Core.List.{List, map}
 use lib.Dec.{eqb}
 use Rattle.laws.specs.Idioms.{within}
 use Rattle.rules.specs.Timing.{ranges}
-use Rattle.timing.specs.declared.Limits.{Limits}
+use Rattle.ranges.specs.declared.Limits.{Limits}
 
 abbrev pub notBurst : ℕ → Bool
 notBurst x = not (eqb x 4 || eqb x 8 || eqb x 16)

@@ -1,8 +1,8 @@
 -- `timing::is_outside` meets its contract. Assumes nothing.
 use borrow.Author.Tests.{le-leb, lt-leb, eq-eqb, ne-eqb}
 use borrow.Author.Needs.{needs}
-use Rattle.timing.proofs.is_outside.Statement.{statement}
-use Rattle.timing.proofs.is_outside.Tie as tie
+use Rattle.ranges.proofs.is_outside.Statement.{statement}
+use Rattle.ranges.proofs.is_outside.Tie as tie
 
 returns : tie.Need-returns
 returns c = simp (lt-leb _ _ (c .if1 .taken))

@@ -1,0 +1,3 @@
+-- What the walk over the figures stands on.
+--     Table   the table of limits is the rule's list
+pub mod Table
