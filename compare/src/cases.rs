@@ -50,6 +50,16 @@ pub fn all(on: &mut Comparer, seed: u64, count: u64) -> Outcome {
 /// Every call on a file, in the plainest way.
 pub fn calls(on: &mut Comparer, file: &[u8]) -> Outcome {
     on.read(file)?;
+    other_calls(on, file)
+}
+
+/// The same of a file that was whole, and was then cut short or had one byte altered.
+fn damaged_calls(on: &mut Comparer, file: &[u8]) -> Outcome {
+    on.read_damaged(file)?;
+    other_calls(on, file)
+}
+
+fn other_calls(on: &mut Comparer, file: &[u8]) -> Outcome {
     on.tasks(file)?;
     on.judge(file, &[], Reaches::all(TASKS))?;
     on.judge(file, &[], Reaches::all(0))?;
@@ -442,8 +452,7 @@ fn reaches(rng: &mut Rng, tasks: usize) -> Reaches {
 fn cuts(on: &mut Comparer, file: &[u8]) -> Outcome {
     for length in 0..file.len() {
         let mut cut = file[..length].to_vec();
-        on.damaged(&cut)?;
-        calls(on, &cut)?;
+        damaged_calls(on, &cut)?;
         if length >= SHORTEST {
             file::seal(&mut cut);
             calls(on, &cut)?;
@@ -466,10 +475,11 @@ fn records(on: &mut Comparer, file: &[u8]) -> Outcome {
 fn altered(on: &mut Comparer, file: &[u8], at: usize, value: u8) -> Outcome {
     let mut file = file.to_vec();
     let was = std::mem::replace(&mut file[at], value);
-    if was != value {
-        on.damaged(&file)?;
+    if was == value {
+        calls(on, &file)?;
+    } else {
+        damaged_calls(on, &file)?;
     }
-    calls(on, &file)?;
     file::seal(&mut file);
     calls(on, &file)
 }

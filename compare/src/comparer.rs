@@ -119,18 +119,18 @@ impl Comparer {
     }
 
     /// `ryb_whole`; answers the refusal, 0 where the file came whole.
-    pub fn whole(&mut self, file: &[u8]) -> Result<u16, Difference> {
+    fn whole(&mut self, file: &[u8]) -> Result<u16, Difference> {
         let own = answers::whole(file);
         let theirs = self.library.whole(file);
         self.count(own);
         same(theirs, own, file, || "ryb_whole".to_owned())
     }
 
-    /// `ryb_whole` of a file that was whole, and was then cut short or had one byte altered: it isn't (RULES 7.6).
-    pub fn damaged(&mut self, file: &[u8]) -> Result<(), Difference> {
-        let refused = self.whole(file)? != 0;
-        same(Ok(refused), true, file, || "ryb_whole of a damaged file".to_owned())?;
-        Ok(())
+    /// The same of a file that was whole, and was then cut short or had one byte altered: it isn't whole (RULES 7.6).
+    pub fn read_damaged(&mut self, file: &[u8]) -> Result<u16, Difference> {
+        let read = self.read(file)?;
+        same(Ok((1..=4).contains(&read)), true, file, || format!("ryb_read of a damaged file, which gives {read}"))?;
+        Ok(read)
     }
 
     /// `ryb_tasks`; answers the count, 0 where refused.

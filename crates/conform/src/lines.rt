@@ -17,11 +17,8 @@ pub fn refused(out: &mut [u8], refusal: Refusal) -> usize {
 // `accepted LEN same` or `accepted LEN differs`
 pub fn accepted(out: &mut [u8], length: usize, same: bool) -> usize {
     let end = labelled(out, 0, b"accepted ", length as u64);
-    if same {
-        word(out, end, b" same")
-    } else {
-        word(out, end, b" differs")
-    }
+    let how = if same { 1 } else { 2 };
+    word(out, end, part(b" same| differs", b'|', how))
 }
 
 fn decided(by: Delay) -> u8 {
@@ -42,29 +39,19 @@ fn put_verdict(out: &mut [u8], at: usize, verdict: Verdict, words: &[u8]) -> usi
 }
 
 // An answer in four words: for a miss, before a bound, and behind a bound that the request delay decided or the job delay. The rounds stand last.
-fn put_answer(out: &mut [u8], at: usize, answer: Answer, words: &[u8]) -> usize {
+pub fn put_answer(out: &mut [u8], at: usize, answer: Answer, words: &[u8]) -> usize {
     let verdict = answer.verdict;
     let end = put_verdict(out, at, verdict, words);
     number(out, end, answer.rounds)
 }
 
-// `holds BOUND request ROUNDS`, `holds BOUND job ROUNDS` or `misses ROUNDS`
-pub fn answered(out: &mut [u8], answer: Answer) -> usize {
-    put_answer(out, 0, answer, b"misses |holds | request | job ")
-}
-
-// ` BOUND/r/ROUNDS`, ` BOUND/j/ROUNDS` or ` -/ROUNDS`
-fn put_field(out: &mut [u8], at: usize, answer: Answer) -> usize {
-    put_answer(out, at, answer, b" -/| |/r/|/j/")
-}
-
-// 32 fields.
+// 32 fields: ` BOUND/r/ROUNDS`, ` BOUND/j/ROUNDS` or ` -/ROUNDS`
 pub fn put_fields(out: &mut [u8], at: usize, answers: [Answer; 32]) -> usize {
     let mut end = at;
     let mut i: usize = 0;
     while i < 32 {
         let answer = answers[i];
-        end = put_field(out, end, answer);
+        end = put_answer(out, end, answer, b" -/| |/r/|/j/");
         i += 1;
     }
     end

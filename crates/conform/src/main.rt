@@ -8,15 +8,12 @@ use line::front;
 use line::labelled;
 use line::word;
 use lines::accepted;
-use lines::answered;
+use lines::put_answer;
 use lines::put_fields;
 use lines::put_part;
 use lines::refused;
-use rules::AllJudged;
 use rules::Judged;
 use rules::Refusal;
-use rules::Rejudged;
-use rules::Table;
 use rules::Written;
 ghost use Prim.Native.Nat.{_≤_};
 ghost use lib.ListN.{length};
@@ -29,10 +26,6 @@ fn reread(file: &[u8], out: &mut [u8]) -> usize {
         return refused(out, refusal);
     }
     let table = read.table;
-    rewrite(table, file, out)
-}
-
-fn rewrite(table: Table, file: &[u8], out: &mut [u8]) -> usize {
     let mut room = [165u8; 2048];
     let written = writer::write(table, &mut room);
     let n = written.length;
@@ -99,13 +92,14 @@ fn write(payload: &[u8], out: &mut [u8]) -> usize {
     labelled(out, end, b" ", weight(&room))
 }
 
+// `holds BOUND request ROUNDS`, `holds BOUND job ROUNDS` or `misses ROUNDS`
 fn put_one(out: &mut [u8], judged: Judged) -> usize {
     let refusal = judged.refusal;
     if refusal.number != 0 {
         return refused(out, refusal);
     }
     let answer = judged.answer;
-    answered(out, answer)
+    put_answer(out, 0, answer, b"misses |holds | request | job ")
 }
 
 // J: one task from a start.
@@ -123,32 +117,23 @@ fn put_outcome(out: &mut [u8], refusal: Refusal, judged: &[u8]) -> usize {
     word(out, 0, judged)
 }
 
-fn put_all(out: &mut [u8], judged: AllJudged) -> usize {
-    let refusal = judged.refusal;
-    let end = put_outcome(out, refusal, b"all");
-    let answers = judged.answers;
-    put_fields(out, end, answers)
-}
-
 // A: all tasks.
 fn judge_all(payload: &[u8], out: &mut [u8]) -> usize {
     let table = raw::table(payload, 256);
-    put_all(out, judge::judge_all(table, raw::starts(payload)))
-}
-
-fn put_again(out: &mut [u8], again: Rejudged) -> usize {
-    let refusal = again.refusal;
-    let how = if again.carried { 1 } else { 2 };
-    let end = put_outcome(out, refusal, part(b"carried|fresh", b'|', how));
-    let answers = again.answers;
+    let judged = judge::judge_all(table, raw::starts(payload));
+    let end = put_outcome(out, judged.refusal, b"all");
+    let answers = judged.answers;
     put_fields(out, end, answers)
 }
 
 // K: a newer table after an older one.
 fn judge_again(payload: &[u8], out: &mut [u8]) -> usize {
     let older = raw::table(payload, 0);
-    let newer = raw::table(payload, 1242);
-    put_again(out, rejudge::judge_carried(older, newer))
+    let again = rejudge::judge_carried(older, raw::table(payload, 1242));
+    let how = if again.carried { 1 } else { 2 };
+    let end = put_outcome(out, again.refusal, part(b"carried|fresh", b'|', how));
+    let answers = again.answers;
+    put_fields(out, end, answers)
 }
 
 // T: a table passed directly, judged and listed.

@@ -1,15 +1,10 @@
 // whole [FILE]: whether a table file, or standard input, came whole, on standard output.
 use console::Got;
 
-// The receipt, and whether it was written.
-fn write(file: &[u8]) -> bool {
-    let mut out = [0u8; 29];
-    let n = receipt::line(file, &mut out);
-    console::say(b"whole: ", line::front(&out, n))
-}
-
 fn show(word: usize, file: &[u8]) -> u8 {
-    if !write(file) {
+    let mut receipt = [0u8; 29];
+    let n = receipt::line(file, &mut receipt);
+    if !console::say(b"whole: ", line::front(&receipt, n)) {
         return 3;
     }
     let came = arrival::whole(file);
