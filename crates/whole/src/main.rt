@@ -2,9 +2,9 @@
 use console::Got;
 
 fn show(word: usize, file: &[u8]) -> u8 {
-    let mut receipt = [0u8; 29];
-    let n = receipt::line(file, &mut receipt);
-    if !console::say(b"whole: ", line::front(&receipt, n)) {
+    let mut out = [0u8; 29];
+    let n = receipt::line(file, &mut out);
+    if !console::say(b"whole: ", line::front(&out, n)) {
         return 3;
     }
     let came = arrival::whole(file);
