@@ -1,5 +1,5 @@
 -- The three points of docs/CLAIMS.md, said of the rules' own definitions: a record is a demand, and its fields are the clauses. These are the sentences
--- to hold against the points; that they hold is proved in proofs/, which can be skipped. The crate `mission` says the main ones of the code itself.
+-- to hold against the points; that they hold is proved in proofs/, which can be skipped. The crates `mission_files` and `mission` say the main ones of the code itself.
 --     Files      point 1 and the second half of point 2: damage is refused, reading and writing return what they are given
 --     Parts      reading in its two parts
 --     Refused    point 1: what a refused operation gives

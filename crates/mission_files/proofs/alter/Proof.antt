@@ -3,8 +3,8 @@ use borrow.Author.Needs.{needs}
 use mathlib.Core.Path.{sym}
 use native.Mathlib.Omega.{arith}
 use lib.Seq.{set-out}
-use Rattle.mission.proofs.alter.Statement.{statement}
-use Rattle.mission.proofs.alter.Tie as tie
+use Rattle.mission_files.proofs.alter.Statement.{statement}
+use Rattle.mission_files.proofs.alter.Tie as tie
 
 pub alter-spec : {M : Type 1} → statement M
 alter-spec =

@@ -2,8 +2,8 @@
 use borrow.Author.Needs.{needs}
 use mathlib.Core.Path.{_∙_}
 use Rattle.claims.proofs.Files.{point-one}
-use Rattle.mission.proofs.whole_cut_short.Statement.{statement}
-use Rattle.mission.proofs.whole_cut_short.Tie as tie
+use Rattle.mission_files.proofs.whole_cut_short.Statement.{statement}
+use Rattle.mission_files.proofs.whole_cut_short.Tie as tie
 
 returns : tie.Need-returns
 returns c =

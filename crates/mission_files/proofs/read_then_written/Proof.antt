@@ -6,8 +6,8 @@ use Prim.Native.Nat.{ℕ, _<_}
 use lib.ListN.{getD}
 use Rattle.claims.proofs.Files.{return-in-place}
 use Rattle.laws.proofs.ByteLists.{bytes-by-place}
-use Rattle.mission.proofs.read_then_written.Statement.{statement}
-use Rattle.mission.proofs.read_then_written.Tie as tie
+use Rattle.mission_files.proofs.read_then_written.Statement.{statement}
+use Rattle.mission_files.proofs.read_then_written.Tie as tie
 
 returns : tie.Need-returns
 returns c =

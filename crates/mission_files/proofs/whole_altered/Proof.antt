@@ -4,9 +4,9 @@ use native.Mathlib.Omega.{arith}
 use Prim.Native.Nat.{ℕ, _<_}
 use lib.ListN.{getD}
 use Rattle.claims.proofs.Files.{point-one}
-use Rattle.mission.proofs.OneByte.{refused-then}
-use Rattle.mission.proofs.whole_altered.Statement.{statement}
-use Rattle.mission.proofs.whole_altered.Tie as tie
+use Rattle.mission_files.proofs.OneByte.{refused-then}
+use Rattle.mission_files.proofs.whole_altered.Statement.{statement}
+use Rattle.mission_files.proofs.whole_altered.Tie as tie
 
 returns : tie.Need-returns
 returns c =

@@ -6,9 +6,9 @@ use Prim.Native.Nat.{ℕ, _<_}
 use lib.ListN.{getD}
 use Rattle.facts.proofs.Reading.{refusal-read}
 use Rattle.claims.proofs.Files.{point-one}
-use Rattle.mission.proofs.OneByte.{refused-then}
-use Rattle.mission.proofs.altered.Statement.{statement}
-use Rattle.mission.proofs.altered.Tie as tie
+use Rattle.mission_files.proofs.OneByte.{refused-then}
+use Rattle.mission_files.proofs.altered.Statement.{statement}
+use Rattle.mission_files.proofs.altered.Tie as tie
 
 returns : tie.Need-returns
 returns c =

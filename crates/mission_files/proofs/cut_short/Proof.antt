@@ -5,8 +5,8 @@ use native.Mathlib.Omega.{arith}
 use lib.Seq.{length-take-le, take-all}
 use Rattle.facts.proofs.Reading.{refusal-read}
 use Rattle.claims.proofs.Files.{point-one}
-use Rattle.mission.proofs.cut_short.Statement.{statement}
-use Rattle.mission.proofs.cut_short.Tie as tie
+use Rattle.mission_files.proofs.cut_short.Statement.{statement}
+use Rattle.mission_files.proofs.cut_short.Tie as tie
 
 returns : tie.Need-returns
 returns c =

@@ -9,8 +9,8 @@ use Rattle.rules.specs.declared.Written.{Written}
 use Rattle.laws.proofs.Runs.{unmapped}
 use Rattle.claims.specs.Files.{Shape}
 use Rattle.claims.proofs.Files.{return-in-place}
-use Rattle.mission.proofs.written_then_read.Statement.{statement}
-use Rattle.mission.proofs.written_then_read.Tie as tie
+use Rattle.mission_files.proofs.written_then_read.Statement.{statement}
+use Rattle.mission_files.proofs.written_then_read.Tie as tie
 
 shape : (c : tie.Start) → Shape (c .args .t)
 shape c = record { figures = search (needs, unmapped); sets = search (needs, unmapped); tasks = search (needs, unmapped) }
