@@ -1,9 +1,16 @@
-// Numbers in lent bytes: little-endian numbers of 2, 4 and 8 bytes, and their bytes stored.
+// Lent bytes: the first of them; little-endian numbers of 2, 4 and 8 bytes in them, and the bytes of such numbers stored.
 ghost use mathlib.Core.Path.{_≡_};
 ghost use Prim.Native.Nat.{_+_, _≤_};
-ghost use lib.ListN.{length};
+ghost use lib.ListN.{length, take};
 ghost use lib.Seq.{sets};
 ghost use Rattle.laws.specs.Idioms.{numberIn, bytesOf, part};
+
+// The first n bytes, or all where there are fewer.
+pub fn front(s: &[u8], n: usize) -> &[u8]
+    ensures { λ r. ⌜ now r ≡ take n (now (s .entry)) ⌝ }
+{
+    if n <= s.len() { &s[..n] } else { s }
+}
 
 // The numbers that two, four and eight bytes give.
 pub fn le16(s: &[u8], at: usize) -> u16

@@ -17,12 +17,9 @@ use Rattle.rules.specs.Figures.{listed}
 use Rattle.laws.specs.Idioms.{filled}
 use Rattle.laws.specs.Bytes.{Bytes}
 
--- a file that reading accepts, and one that it refuses; a table that is accepted
+-- a file that reading accepts; a table that is accepted
 abbrev pub AcceptedFile : List ℕ → Type 0
 AcceptedFile s = isAccepted (reading s .refusal) ≡ true
-
-abbrev pub RefusedFile : List ℕ → Type 0
-RefusedFile s = isAccepted (reading s .refusal) ≡ false
 
 abbrev pub AcceptedTable : Table → Type 0
 AcceptedTable t = isAccepted (checkTable t) ≡ true

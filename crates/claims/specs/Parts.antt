@@ -5,7 +5,6 @@ use mathlib.Core.Bool.{true, false, cond}
 use mathlib.Core.Logic.{_⊎_, _↔_}
 use mathlib.Core.List.{List}
 use Rattle.laws.specs.Idioms.{Within}
-use Rattle.rules.specs.declared.Refusal.{Refusal}
 use Rattle.rules.specs.Chain.{isAccepted}
 use Rattle.rules.specs.File.{checkWhole, decode}
 use Rattle.rules.specs.Operations.{emptyTable, taking, reading, checkFile}

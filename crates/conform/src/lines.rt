@@ -1,24 +1,36 @@
-// Answers as text, each a line without its end.
+// Answers, piece by piece to standard output. What is written behind something else takes whether that was written, and tells whether all is: after a write that failed there
+// is no other.
 use console::part;
-use line::labelled;
-use line::number;
-use line::word;
 use rules::Answer;
 use rules::Delay;
 use rules::Refusal;
 use rules::Verdict;
 
-// `refused N P`
-pub fn refused(out: &mut [u8], refusal: Refusal) -> usize {
-    let end = labelled(out, 0, b"refused ", refusal.number as u64);
-    labelled(out, end, b" ", refusal.place as u64)
+pub fn word(ok: bool, text: &[u8]) -> bool {
+    if ok {
+        io::write_all(libc::STDOUT_FILENO, text)
+    } else {
+        false
+    }
 }
 
-// `accepted LEN same` or `accepted LEN differs`
-pub fn accepted(out: &mut [u8], length: usize, same: bool) -> usize {
-    let end = labelled(out, 0, b"accepted ", length as u64);
-    let how = if same { 1 } else { 2 };
-    word(out, end, part(b" same| differs", b'|', how))
+fn number(ok: bool, n: u64) -> bool {
+    if ok {
+        io::print_decimal(libc::STDOUT_FILENO, n)
+    } else {
+        false
+    }
+}
+
+// A word and a number behind it.
+pub fn labelled(ok: bool, label: &[u8], n: u64) -> bool {
+    number(word(ok, label), n)
+}
+
+// `refused N P`
+pub fn refused(refusal: Refusal) -> bool {
+    let said = labelled(true, b"refused ", refusal.number as u64);
+    labelled(said, b" ", refusal.place as u64)
 }
 
 fn decided(by: Delay) -> u8 {
@@ -28,48 +40,50 @@ fn decided(by: Delay) -> u8 {
     }
 }
 
-fn put_verdict(out: &mut [u8], at: usize, verdict: Verdict, words: &[u8]) -> usize {
+fn put_verdict(ok: bool, verdict: Verdict, words: &[u8]) -> bool {
     match verdict {
-        Verdict::Misses => word(out, at, part(words, b'|', 1)),
+        Verdict::Misses => word(ok, part(words, b'|', 1)),
         Verdict::Holds(bound, by) => {
-            let end = labelled(out, at, part(words, b'|', 2), bound.0);
-            word(out, end, part(words, b'|', decided(by)))
+            let said = labelled(ok, part(words, b'|', 2), bound.0);
+            word(said, part(words, b'|', decided(by)))
         }
     }
 }
 
 // An answer in four words: for a miss, before a bound, and behind a bound that the request delay decided or the job delay. The rounds stand last.
-pub fn put_answer(out: &mut [u8], at: usize, answer: Answer, words: &[u8]) -> usize {
+pub fn put_answer(ok: bool, answer: Answer, words: &[u8]) -> bool {
     let verdict = answer.verdict;
-    let end = put_verdict(out, at, verdict, words);
-    number(out, end, answer.rounds)
+    number(put_verdict(ok, verdict, words), answer.rounds)
 }
 
 // 32 fields: ` BOUND/r/ROUNDS`, ` BOUND/j/ROUNDS` or ` -/ROUNDS`
-pub fn put_fields(out: &mut [u8], at: usize, answers: [Answer; 32]) -> usize {
-    let mut end = at;
+pub fn put_fields(ok: bool, answers: [Answer; 32]) -> bool {
+    let mut said = ok;
     let mut i: usize = 0;
     while i < 32 {
         let answer = answers[i];
-        end = put_answer(out, end, answer, b" -/| |/r/|/j/");
+        said = put_answer(said, answer, b" -/| |/r/|/j/");
         i += 1;
     }
-    end
+    said
 }
 
-fn put_byte(out: &mut [u8], at: usize, b: u8) -> usize {
-    let mut digits = [0u8; 16];
-    let n = io::hex(b as u64, 2, &mut digits);
-    word(out, at, &digits[..n])
+// A byte in two hexadecimal digits.
+fn put_byte(ok: bool, b: u8) -> bool {
+    if ok {
+        io::print_hex(libc::STDOUT_FILENO, b as u64, 2)
+    } else {
+        false
+    }
 }
 
 // `part HEX`: bytes as lowercase hexadecimal.
-pub fn put_part(out: &mut [u8], s: &[u8]) -> usize {
-    let mut end = word(out, 0, b"part ");
+pub fn put_part(s: &[u8]) -> bool {
+    let mut said = word(true, b"part ");
     let mut i: usize = 0;
     while i < s.len() {
-        end = put_byte(out, end, s[i]);
+        said = put_byte(said, s[i]);
         i += 1;
     }
-    end
+    said
 }

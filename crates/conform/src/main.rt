@@ -2,50 +2,70 @@
 mod lines;
 mod raw;
 
+use bytes::front;
 use console::Got;
 use console::part;
-use line::front;
-use line::labelled;
-use line::word;
-use lines::accepted;
+use lines::labelled;
 use lines::put_answer;
 use lines::put_fields;
 use lines::put_part;
 use lines::refused;
+use lines::word;
 use rules::Judged;
 use rules::Refusal;
 use rules::Written;
 ghost use Prim.Native.Nat.{_≤_};
 ghost use lib.ListN.{length};
 
+// The refusal, or else a word.
+fn put_outcome(refusal: Refusal, otherwise: &[u8]) -> bool {
+    if refusal.number != 0 {
+        return refused(refusal);
+    }
+    word(true, otherwise)
+}
+
+// L: what is listed of a file.
+fn list(file: &[u8]) -> bool {
+    let mut out = [0u8; 3266];
+    let n = listing::list(file, &mut out);
+    word(true, front(&out, n))
+}
+
+// H: did a file come whole?
+fn came(file: &[u8]) -> bool {
+    put_outcome(arrival::whole(file), b"whole")
+}
+
 // R: a file is read, and what was read is written.
-fn reread(file: &[u8], out: &mut [u8]) -> usize {
+fn reread(file: &[u8]) -> bool {
     let read = file::read(file);
     let refusal = read.refusal;
     if refusal.number != 0 {
-        return refused(out, refusal);
+        return refused(refusal);
     }
     let table = read.table;
     let mut room = [165u8; 2048];
     let written = writer::write(table, &mut room);
     let n = written.length;
-    accepted(out, n, check::same(front(&room, n), file))
-}
-
-// H: did a file come whole?
-fn came(file: &[u8], out: &mut [u8]) -> usize {
-    put_outcome(out, arrival::whole(file), b"whole")
+    let how = if check::same(front(&room, n), file) {
+        1
+    } else {
+        2
+    };
+    let said = labelled(true, b"accepted ", n as u64);
+    word(said, part(b" same| differs", b'|', how))
 }
 
 // V: a task's record in a file.
-fn view(payload: &[u8], out: &mut [u8]) -> usize {
+fn view(payload: &[u8]) -> bool {
     let k = raw::byte(payload, 0);
     let file = raw::from(payload, 1);
     let refusal = view::view_refusal(file, k);
     if refusal.number != 0 {
-        return refused(out, refusal);
+        return refused(refusal);
     }
-    put_part(out, view::view(file, k))
+    put_part(view::view(file, k))
 }
 
 // The sum of (place from 1) times (byte): the sum of what stands from each place to the end.
@@ -76,120 +96,110 @@ fn write_raw(payload: &[u8], room: &mut [u8]) -> Written {
     writer::write(raw::table(payload, 2), &mut room[..n])
 }
 
-fn put_written(out: &mut [u8], written: Written) -> usize {
+fn put_written(written: Written) -> bool {
     let refusal = written.refusal;
     if refusal.number != 0 {
-        return refused(out, refusal);
+        return refused(refusal);
     }
-    labelled(out, 0, b"written ", written.length as u64)
+    labelled(true, b"written ", written.length as u64)
 }
 
 // W: a table is written to the first bytes of 2,048.
-fn write(payload: &[u8], out: &mut [u8]) -> usize {
+fn write(payload: &[u8]) -> bool {
     let mut room = [165u8; 2048];
     let written = write_raw(payload, &mut room);
-    let end = put_written(out, written);
-    labelled(out, end, b" ", weight(&room))
+    labelled(put_written(written), b" ", weight(&room))
 }
 
 // `holds BOUND request ROUNDS`, `holds BOUND job ROUNDS` or `misses ROUNDS`
-fn put_one(out: &mut [u8], judged: Judged) -> usize {
+fn put_one(judged: Judged) -> bool {
     let refusal = judged.refusal;
     if refusal.number != 0 {
-        return refused(out, refusal);
+        return refused(refusal);
     }
     let answer = judged.answer;
-    put_answer(out, 0, answer, b"misses |holds | request | job ")
+    put_answer(true, answer, b"misses |holds | request | job ")
 }
 
 // J: one task from a start.
-fn judge_one(payload: &[u8], out: &mut [u8]) -> usize {
+fn judge_one(payload: &[u8]) -> bool {
     let k = raw::byte(payload, 0);
     let start = raw::start(payload, 1);
-    put_one(out, judge::judge_one(raw::table(payload, 9), k, start))
-}
-
-// The refusal, or else a word.
-fn put_outcome(out: &mut [u8], refusal: Refusal, judged: &[u8]) -> usize {
-    if refusal.number != 0 {
-        return refused(out, refusal);
-    }
-    word(out, 0, judged)
+    put_one(judge::judge_one(raw::table(payload, 9), k, start))
 }
 
 // A: all tasks.
-fn judge_all(payload: &[u8], out: &mut [u8]) -> usize {
+fn judge_all(payload: &[u8]) -> bool {
     let table = raw::table(payload, 256);
     let judged = judge::judge_all(table, raw::starts(payload));
-    let end = put_outcome(out, judged.refusal, b"all");
     let answers = judged.answers;
-    put_fields(out, end, answers)
+    put_fields(put_outcome(judged.refusal, b"all"), answers)
 }
 
 // K: a newer table after an older one.
-fn judge_again(payload: &[u8], out: &mut [u8]) -> usize {
+fn judge_again(payload: &[u8]) -> bool {
     let older = raw::table(payload, 0);
     let again = rejudge::judge_carried(older, raw::table(payload, 1242));
     let how = if again.carried { 1 } else { 2 };
-    let end = put_outcome(out, again.refusal, part(b"carried|fresh", b'|', how));
     let answers = again.answers;
-    put_fields(out, end, answers)
+    put_fields(
+        put_outcome(again.refusal, part(b"carried|fresh", b'|', how)),
+        answers,
+    )
 }
 
 // T: a table passed directly, judged and listed.
-fn list_raw(payload: &[u8], out: &mut [u8]) -> usize {
+fn list_raw(payload: &[u8]) -> bool {
     let table = raw::table(payload, 256);
     let judged = judge::judge_all(table, raw::starts(payload));
     let answers = judged.answers;
-    listing::lines(table, answers, out)
+    let mut out = [0u8; 3266];
+    let n = listing::lines(table, answers, &mut out);
+    word(true, front(&out, n))
 }
 
 // An answer of one line, without the line's end.
-fn one_line(letter: u8, payload: &[u8], out: &mut [u8]) -> usize {
+fn one_line(letter: u8, payload: &[u8]) -> bool {
     match letter {
-        b'R' => reread(payload, out),
-        b'H' => came(payload, out),
-        b'V' => view(payload, out),
-        b'W' => write(payload, out),
-        b'J' => judge_one(payload, out),
-        b'A' => judge_all(payload, out),
-        b'K' => judge_again(payload, out),
-        _ => word(out, 0, b"unknown"),
+        b'R' => reread(payload),
+        b'H' => came(payload),
+        b'V' => view(payload),
+        b'W' => write(payload),
+        b'J' => judge_one(payload),
+        b'A' => judge_all(payload),
+        b'K' => judge_again(payload),
+        _ => word(true, b"unknown"),
     }
 }
 
-fn answer(letter: u8, payload: &[u8], out: &mut [u8]) -> usize {
+// Whether the answer to a case was written.
+fn answer(letter: u8, payload: &[u8]) -> bool {
     match letter {
-        b'L' => listing::list(payload, out),
-        b'T' => list_raw(payload, out),
-        _ => {
-            let end = one_line(letter, payload, out);
-            word(out, end, b"\n")
-        }
+        b'L' => list(payload),
+        b'T' => list_raw(payload),
+        _ => word(one_line(letter, payload), b"\n"),
     }
 }
 
 // The status where the stream goes on. A status that the program ends with is 0 or 3.
 const ON: u8 = 4;
 
-// Writes, and gives the status then.
-fn said(text: &[u8], status: u8) -> u8 {
-    if console::say(b"conform: ", text) {
-        status
-    } else {
-        3
+// The status, where what was to be said before is written.
+fn ended(ok: bool, status: u8) -> u8 {
+    if ok {
+        return status;
     }
+    console::unwritten(b"conform: ");
+    3
 }
 
 // The stream ended inside a case.
 fn cut() -> u8 {
-    said(b"cut\n", 0)
+    ended(word(true, b"cut\n"), 0)
 }
 
 fn say_answer(letter: u8, payload: &[u8; 65536], n: usize) -> u8 {
-    let mut out = [0u8; 4096];
-    let end = answer(letter, front(payload, n), &mut out);
-    said(front(&out, end), ON)
+    ended(answer(letter, front(payload, n)), ON)
 }
 
 // A case after its head: the payload's n bytes are read, and the answer is written.

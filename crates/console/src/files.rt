@@ -59,11 +59,16 @@ pub fn load(who: &[u8], i: usize, buf: &mut [u8]) -> Got {
     load_named(who, &name[..n], buf)
 }
 
+// That standard output was not written to, as the call that failed last.
+pub fn unwritten(who: &[u8]) {
+    failed(who, b"standard output");
+}
+
 // A text to standard output, and whether it was written.
 pub fn say(who: &[u8], text: &[u8]) -> bool {
     if io::write_all(libc::STDOUT_FILENO, text) {
         return true;
     }
-    failed(who, b"standard output");
+    unwritten(who);
     false
 }

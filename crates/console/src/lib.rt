@@ -7,6 +7,7 @@ mod notes;
 pub use files::Got;
 pub use files::load;
 pub use files::say;
+pub use files::unwritten;
 pub use notes::explain;
 pub use notes::note;
 pub use notes::note_number;

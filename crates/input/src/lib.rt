@@ -11,7 +11,7 @@ fn front_of(s: &[u8], n: usize) -> &[u8]
     ensures { λ r. ⌜ now r ≡ take n (now (s .entry)) ⌝ }
     ensures { λ r. ⌜ ((whole : List ℕ) → take (length (now (s .entry))) whole ≡ now r → StandsFor whole (now r)) ⌝ }
 {
-    line::front(s, n)
+    bytes::front(s, n)
 }
 
 // The first n bytes of the array, or all where n is larger. They stand for every input of which they are the first bytes, as many as the array

@@ -16,6 +16,10 @@ pub and-false : (a : Bool) → a && false ≡ false
 and-false true = refl
 and-false false = refl
 
+-- a test does not pass and fail
+pub clash : _≡_ {A = Bool} true false → ⊥
+clash e = let z : _≡_ {A = ℕ} 0 1 = cc in omega arith
+
 -- a test that cannot pass fails
 pub fails : (b : Bool) → (b ≡ true → ⊥) → b ≡ false
 fails true h = absurd (h refl)

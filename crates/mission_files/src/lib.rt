@@ -10,7 +10,7 @@ ghost use Rattle.rules.specs.File.{checkWhole};
 ghost use Rattle.rules.specs.Operations.{checkFile, reading, writing, outAfter};
 ghost use Rattle.claims.specs.Files.{AcceptedFile, AcceptedTable, cleared};
 ghost use Rattle.mission_files.specs.Written.{writtenTo, WrittenBack};
-use line::front;
+use bytes::front;
 use rules::Read;
 use rules::Refusal;
 use rules::Table;

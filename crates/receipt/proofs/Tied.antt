@@ -8,6 +8,7 @@ use native.Mathlib.Omega.{arith}
 use lib.ListN.{getD}
 use Rattle.laws.specs.Idioms.{text}
 use Rattle.laws.specs.Decimal.{decimal}
+use Rattle.laws.proofs.Tests.{clash}
 use Rattle.rules.specs.Chain.{isAccepted}
 use Rattle.rules.specs.File.{checkWhole}
 use Rattle.rules.specs.Listing.{refusedLine, receipt}
@@ -17,9 +18,6 @@ use Rattle.receipt.proofs.Receipt.{receipt-whole, receipt-refused, stat
 -- no text is both: they begin with other letters
 two-words : (n : ℕ) → text "whole\n" ≡ text "refused " ++ decimal n ++ text "\n" → ⊥
 two-words n e = let first : _≡_ {A = ℕ} 119 114 = ap (λ (l : List ℕ). getD l 0 0) e in omega arith
-
-clash : _≡_ {A = Bool} true false → ⊥
-clash e = let z : _≡_ {A = ℕ} 0 1 = cc in omega arith
 
 refused-words : (n : ℕ) → refusedLine n ≡ text "refused " ++ decimal n ++ text "\n"
 unfolding refusedLine

@@ -7,7 +7,7 @@ use Prim.Native.Nat.{ℕ, _≤_}
 use native.Mathlib.Omega.{arith}
 use Rattle.equation.specs.Outcome.{Outcome, Smallest, Correct, least, none}
 use Rattle.laws.specs.Idioms.{upTo, entry, every}
-use Rattle.laws.proofs.Tests.{every-member}
+use Rattle.laws.proofs.Tests.{clash, every-member}
 use Rattle.laws.proofs.Members.{member-upTo, upTo-has}
 use Rattle.rules.specs.declared.Table.{Table}
 use Rattle.rules.specs.declared.Delay.{Delay}
@@ -24,9 +24,6 @@ use Rattle.facts.proofs.Reading.{refusal-read, read-accepted}
 use Rattle.status.specs.Status.{held, allHold, fileStatus}
 use Rattle.status.specs.Tied.{HasBound, IsTask, TiedToBounds}
 use Rattle.status.proofs.Decided.{refused-status, accepted-status}
-
-clash : _≡_ {A = Bool} true false → ⊥
-clash e = let z : _≡_ {A = ℕ} 0 1 = cc in omega arith
 
 -- ---- a test of every member
 

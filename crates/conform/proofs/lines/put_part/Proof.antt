@@ -7,13 +7,13 @@ use Rattle.conform.proofs.lines.put_part.Statement.{statement}
 use Rattle.conform.proofs.lines.put_part.Tie as tie
 
 abbrev Inv-loop : tie.InvT-loop
-Inv-loop out₀ s end₀ i₀ out end i = (i ≤ length s) × (length out ≡ length out₀)
+Inv-loop s said₀ i₀ said i = i ≤ length s
 
 abbrev μ-loop : tie.MeasureT-loop
-μ-loop out₀ s end₀ i₀ out end i = length s - i
+μ-loop s said₀ i₀ said i = length s - i
 
 pub put-part-spec : {M : Type 1} → statement M
 put-part-spec =
     tie.close
     (tie.spec Inv-loop μ-loop (λ c. search needs) (λ c κs. search needs) (λ c. search needs) (λ c. search needs) (λ c κs. search needs)
-    (λ c. search needs) (λ c. search needs) (λ c. search needs) (λ c. search needs) (λ c. search needs))
+    (λ c. search needs) (λ c. search needs) (λ c. search needs) (λ c. search needs))

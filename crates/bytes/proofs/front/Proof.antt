@@ -3,8 +3,8 @@ use mathlib.Core.Path.{sym}
 use native.Mathlib.Omega.{arith}
 use borrow.Author.Needs.{needs}
 use lib.Seq.{take-all, length-take-le}
-use Rattle.line.proofs.front.Statement.{statement}
-use Rattle.line.proofs.front.Tie as tie
+use Rattle.bytes.proofs.front.Statement.{statement}
+use Rattle.bytes.proofs.front.Tie as tie
 
 pub front-spec : {M : Type 1} → statement M
 front-spec =
