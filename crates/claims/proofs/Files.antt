@@ -34,7 +34,7 @@ checked s ok = rw (refusal-read s) at ok
 read-written-back : (s : List ℕ) → AcceptedFile s → Bytes s → encode (reading s .table) ≡ s
 read-written-back s ok b = rw (read-table s (checked s ok)) (written-again b (whole s (accepted-whole s ok)))
 
--- what a check accepts of files that came whole only, cannot be cut or altered either
+-- a check that accepts only files that came whole finds both kinds of damage
 damaged : (check : Check) → ((s : List ℕ) → isAccepted (check s) ≡ true → isAccepted (checkWhole s) ≡ true) → Damage check
 damaged check only = record {
   cut-short = λ s ok n less. fails _ (λ e. not-cut n less (whole s (only s ok)) (whole (take n s) (only (take n s) e)));

@@ -8,7 +8,8 @@
 --     Widths     every figure of an accepted table fits its field
 --     FromTable  the file of an accepted table is whole and gives that table
 --     Cleared    a table and the same table cleared meet the same refusals
---     NoRefusal  which numbers a check gives; where nothing is refused, number and place are 0
+--     Numbers    which refusals the checks of a file and of a table give
+--     NoRefusal  where nothing is refused, number and place are 0
 --     Parts      reading in its two parts
 --     Files      the demands on table files
 -- and beside them
@@ -26,6 +27,7 @@ pub mod FromFile
 pub mod Widths
 pub mod FromTable
 pub mod Cleared
+pub mod Numbers
 pub mod NoRefusal
 pub mod Parts
 pub mod Files

@@ -7,19 +7,11 @@ use rules::Refusal;
 use rules::Verdict;
 
 pub fn word(ok: bool, text: &[u8]) -> bool {
-    if ok {
-        io::write_all(libc::STDOUT_FILENO, text)
-    } else {
-        false
-    }
+    ok && io::write_all(libc::STDOUT_FILENO, text)
 }
 
 fn number(ok: bool, n: u64) -> bool {
-    if ok {
-        io::print_decimal(libc::STDOUT_FILENO, n)
-    } else {
-        false
-    }
+    ok && io::print_decimal(libc::STDOUT_FILENO, n)
 }
 
 // A word and a number behind it.
@@ -70,11 +62,7 @@ pub fn put_fields(ok: bool, answers: [Answer; 32]) -> bool {
 
 // A byte in two hexadecimal digits.
 fn put_byte(ok: bool, b: u8) -> bool {
-    if ok {
-        io::print_hex(libc::STDOUT_FILENO, b as u64, 2)
-    } else {
-        false
-    }
+    ok && io::print_hex(libc::STDOUT_FILENO, b as u64, 2)
 }
 
 // `part HEX`: bytes as lowercase hexadecimal.

@@ -59,7 +59,7 @@ pub fn load(who: &[u8], i: usize, buf: &mut [u8]) -> Got {
     load_named(who, &name[..n], buf)
 }
 
-// That standard output was not written to, as the call that failed last.
+// `list: standard output: No space left on device`, in the words for the call that failed last.
 pub fn unwritten(who: &[u8]) {
     failed(who, b"standard output");
 }

@@ -20,10 +20,7 @@ pub fn cut_short(file: &[u8], n: usize) -> Refusal
     ensures { λ r. ⌜ r ≡ checkFile (take n (now (file .entry))) ⌝ }
     ensures { λ r. ⌜ (AcceptedFile (now (file .entry)) → n < length (now (file .entry)) → isAccepted r ≡ false) ⌝ }
 {
-    if n < file.len() {
-        return file::check(&file[..n]);
-    }
-    file::check(file)
+    file::check(front(file, n))
 }
 
 // Byte i becomes b, where there is one.
