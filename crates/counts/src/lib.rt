@@ -1,10 +1,11 @@
 // What tasks ask for in a time.
-ghost use Prim.Native.Nat.{_^_, _≤_};
+ghost use Prim.Native.Nat.{_*_, _^_, _≤_};
+ghost use Rattle.laws.specs.Idioms.{Within};
 ghost use Rattle.releases.specs.Releases.{Small};
-ghost use Rattle.counts.specs.Counts.{Summed, Slots};
+ghost use Rattle.counts.specs.Counts.{released, laterOf, Summed, Slots};
 
-// RULES 4.5: the requests in t of the tasks of a core, those in places a to e, each with the job that it carries in.
-pub fn asked(
+// The requests in t of the tasks of a core, those in places a to e, less those of each task's first job. From time 1 on there is one.
+pub fn later(
     a: usize,
     e: usize,
     periods: &[u64; 33],
@@ -12,14 +13,14 @@ pub fn asked(
     asks: &[u64; 33],
     t: u64,
 ) -> u64
-    requires { ⌜ (t ≤ 10 ^ 12) × Small (now invs) ⌝ }
+    requires { ⌜ Within 1 (10 ^ 12) t × Small (now invs) ⌝ }
     requires { ⌜ Slots (10 ^ 6) a e (now periods) (now asks) ⌝ }
-    ensures { λ r. ⌜ Summed (10 ^ 6) 1 t a e (now (periods .entry)) (now (asks .entry)) r ⌝ }
+    ensures { λ r. ⌜ Summed (10000 * 10 ^ 6) (laterOf t (now (periods .entry)) (now (asks .entry))) a e r ⌝ }
 {
     let mut sum: u64 = 0;
     let mut i = a;
     while i < e {
-        sum += (releases::up(t, periods[i], invs[i]) + 1) * asks[i];
+        sum += (releases::up(t, periods[i], invs[i]) - 1) * asks[i];
         i += 1;
     }
     sum
@@ -44,8 +45,8 @@ pub fn asked_higher(
     requires { ⌜ (t ≤ 10 ^ 12) × Small (now invs) ⌝ }
     requires { ⌜ Slots (10 ^ 12) a e (now periods) (now execs) ⌝ }
     requires { ⌜ Slots (10 ^ 6) a e (now periods) (now asks) ⌝ }
-    ensures { λ r. ⌜ Summed (10 ^ 12) 0 t a e (now (periods .entry)) (now (execs .entry)) (r .execs) ⌝ }
-    ensures { λ r. ⌜ Summed (10 ^ 6) 0 t a e (now (periods .entry)) (now (asks .entry)) (r .requests) ⌝ }
+    ensures { λ r. ⌜ Summed (10000 * 10 ^ 12) (released 0 t (now (periods .entry)) (now (execs .entry))) a e (r .execs) ⌝ }
+    ensures { λ r. ⌜ Summed (10000 * 10 ^ 6) (released 0 t (now (periods .entry)) (now (asks .entry))) a e (r .requests) ⌝ }
 {
     let mut exec_sum: u64 = 0;
     let mut request_sum: u64 = 0;

@@ -1,0 +1,2 @@
+-- What the contracts about floors cite beside the rules.
+pub mod Floors

@@ -1,0 +1,2 @@
+-- What the contracts about job cite beside the rules.
+pub mod Job
