@@ -4,7 +4,7 @@ use mathlib.Core.Logic.{_≢_}
 use mathlib.Core.Bool.{true, false}
 use mathlib.Core.List.{List}
 use Prim.Native.Nat.{ℕ, _+_, _≤_, _<_, max}
-use native.Mathlib.Nat.{mul-le-mul-left, mul-le-mul-right, le-refl}
+use native.Mathlib.Nat.{mul-le-mul-left, le-refl}
 use native.Mathlib.Decide.{decLe}
 use native.Mathlib.Omega.{arith}
 use lib.ListN.{getD}
@@ -19,8 +19,10 @@ use Rattle.equation.proofs.Loop.{Round, starts, Midway, midway-next, midway-hol
 use Rattle.rules.specs.declared.Verdict.the-variants.{Holds, Misses}
 use Rattle.rules.specs.Units.{ps}
 use Rattle.rules.specs.Judgement.{misses, withDelay}
-use Rattle.counts.proofs.Sums.{below-mono, asked-mono}
-use Rattle.terms.specs.Terms.{Terms, aboveOf, chargeOf, requestOf, jobOf, timeOf, byOf, applied}
+use Rattle.counts.proofs.Sums.{asked-mono}
+use Rattle.floors.proofs.Weighed.{weighed-mono}
+use Rattle.job.specs.Job.{arrivedOn, jobBy}
+use Rattle.terms.specs.Terms.{Terms, aboveOf, requestOf, jobOf, timeOf, byOf, applied}
 use Rattle.terms.specs.declared.Applied.{Applied}
 use Rattle.climb.specs.declared.Climbed.{Climbed}
 use Rattle.climb.specs.Run.{lowestOf, startFrom, Ready, answerOf, isHigh, climbed}
@@ -34,9 +36,10 @@ module _ (t u : ℕ) (h : t ≤ u) (m : Terms) where
   request-rises = mul-le-mul-left (m .own .delay .0) (omega (arith, above-rises (m .asks)))
 
   job-rises : jobOf m t ≤ jobOf m u
-  unfolding jobOf chargeOf
+  unfolding jobOf jobBy arrivedOn
   job-rises =
-      below-mono _ _ (m .own .cores) (λ q. mul-le-mul-right _ (asked-mono 1 (getD (m .begins) q 0) (getD (m .begins) (q + 1) 0) (m .periods) (m .asks) t u (λ period. ceil-rises period h)))
+      weighed-mono (m .own .others .cores) (m .own .others .weight) _ _
+      (λ q. asked-mono 1 (getD (m .begins) q 0) (getD (m .begins) (q + 1) 0) (m .periods) (m .asks) t u (λ period. ceil-rises period h))
 
   time-rises : timeOf m t ≤ timeOf m u
   unfolding timeOf

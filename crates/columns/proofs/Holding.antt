@@ -23,6 +23,7 @@ use Rattle.prices.specs.Costs.{costsOf, noCosts, allCosts}
 use Rattle.groups.specs.Grouped.{placesOn, Ordered}
 use Rattle.groups.specs.Columns.{PerTask, InOrder, Columns}
 use Rattle.groups.proofs.PlacesOn.{places-none, places-next, places-few, places-first, own-within, own-place}
+use Rattle.floors.specs.Floors.{twiceOn, othersWith}
 use Rattle.terms.specs.Terms.{termsOf}
 use Rattle.climb.specs.Run.{Ready, climbed}
 use Rattle.rounds.specs.declared.Priced.{Priced}
@@ -30,7 +31,7 @@ use Rattle.rounds.specs.Lent.{Lent, ownWith, placeAt, ownAt, termsAt, climbedAt
 use Rattle.columns.specs.Numbered.{climbedFor, pricedOf}
 use Rattle.columns.specs.Held.{Held}
 use Rattle.columns.proofs.FromPlace.{From}
-use Rattle.columns.proofs.Stands.{GroupAt, Grouped, Above, termsFor, climbed-same, ready-for}
+use Rattle.columns.proofs.Stands.{GroupAt, Grouped, Above, lots-for, termsFor, climbed-same, ready-for}
 
 -- the task in place i
 abbrev taskIn : Table → ℕ → Task
@@ -158,7 +159,10 @@ module _ (t : Table) (s : Sound t) {l : Lent} (o : Held t l) where
     terms-are : termsAt l i ≡ termsFor t (i + 1) first (placeAt l i) (l .begins) (l .periods) (l .execs) (l .asks)
     terms-are =
         rw (core-is, less, own-figure (o .columns .execs), own-figure (o .columns .requests), o .per-task .latest-is i here, own-is, cost-is)
-        (ap (λ (b : Priced). termsOf (ownWith (C (taskIn t i)) (H (taskIn t i)) (latest (taskIn t i)) (costsOf t own) (b .cores) first (placeAt l i)) (l .begins) (l .periods) (l .execs) (l .asks)) (o .board-is))
+        (ap
+        (λ (b : Priced).
+        termsOf (ownWith (C (taskIn t i)) (H (taskIn t i)) (latest (taskIn t i)) (costsOf t own .request) (othersWith (b .cores) (costsOf t own .weight) (twiceOn (l .begins) (l .asks))) first (placeAt l i)) (l .begins) (l .periods) (l .execs) (l .asks))
+        (o .board-is))
 
     of-ready : (start : ℕ) → start ≤ getD (l .latest) i 0 → Ready (termsAt l i) start
     of-ready start fits =
@@ -180,6 +184,7 @@ module _ (t : Table) (s : Sound t) {l : Lent} (o : Held t l) where
         few = omega (arith, tasks-are, s .tasks-in .high);
         long = o .ordered .long;
         costs-long = costs-long;
+        lots = rw (ap (λ (b : Priced). b .cores) (o .board-is)) (lots-for t s grouped);
         core-in = λ i h. let here : i < t .tasks = omega (arith, tasks-are) in rw (own-is i here) (record { low = own-in i here .low; high = omega (arith, own-in i here .high, s .cores-in .high) });
         place-low = λ i h. place-low i (omega (arith, tasks-are));
         ready = λ i start h. of-ready i (omega (arith, tasks-are)) start;

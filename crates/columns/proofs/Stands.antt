@@ -1,7 +1,7 @@
 -- The terms of a task of a sound table: they are fair, their F and deciding delay are the rules', and so is what judging gives. Assumes nothing.
 use mathlib.Core.Path.{_≡_, refl, sym, ap, _∙_, fun-ext}
 use mathlib.Core.List.{List, List·Memᴰ}
-use Prim.Native.Nat.{ℕ, zero, suc, _+_, _-_, _*_, _≤_, _<_}
+use Prim.Native.Nat.{ℕ, zero, suc, _+_, _-_, _*_, _≤_, _<_, _^_}
 use native.Mathlib.Nat.{add-zero}
 use native.Mathlib.Numerals.{add-one}
 use native.Mathlib.Omega.{arith}
@@ -28,9 +28,11 @@ use Rattle.laws.proofs.Sums.{sum-append, upTo-next}
 use Rattle.laws.proofs.Members.{member-those}
 use Rattle.laws.proofs.Places.{place-of}
 use Rattle.board.proofs.Bounds.{price-bounded}
-use Rattle.counts.specs.Counts.{sumBelow}
+use Rattle.counts.specs.Counts.{sumBelow, Slots}
 use Rattle.counts.proofs.Sums.{below-next, below-same}
-use Rattle.terms.specs.Terms.{Terms, termsOf, chargeOf, aboveOf, requestOf, jobOf, timeOf, byOf, Group, Fair}
+use Rattle.floors.specs.Floors.{weighed, Lots, twiceOn, othersWith}
+use Rattle.job.specs.Job.{arrivedOn, jobBy, Group}
+use Rattle.terms.specs.Terms.{Terms, termsOf, aboveOf, requestOf, jobOf, timeOf, byOf, Fair}
 use Rattle.climb.specs.Run.{lowestOf, Ready, answerOf, isHigh, climbed}
 use Rattle.rounds.specs.Lent.{ownWith}
 use Rattle.columns.specs.Numbered.{climbedFor}
@@ -46,6 +48,18 @@ pub record GroupAt (t : Table) (begins spans costs asks : List ℕ) (q : ℕ) : 
 abbrev pub Grouped : Table → List ℕ → List ℕ → List ℕ → List ℕ → Type 0
 Grouped t begins spans costs asks = (q : ℕ) → q < t .cores → GroupAt t begins spans costs asks q
 
+-- their figures are those of accepted tasks
+module _ (t : Table) (s : Sound t) {begins spans costs asks : List ℕ} (g : Grouped t begins spans costs asks) where
+  sound-on : (q : ℕ) (j : Task) → List·Memᴰ j (tasksOn t q) → SoundTask (t .cores) j
+  unfolding tasksOn
+  sound-on q j mem = sound-all t s (member-those (isOn q) (tasksOf t) mem .0)
+
+  slots-on : (q : ℕ) → q < t .cores → Slots (10 ^ 6) (getD begins q 0) (getD begins (q + 1) 0) spans asks
+  slots-on q h = let j = g q h in slots-are (j .periods) (j .requests) (j .next) (j .few) (sound-on (q + 1)) (λ i sound. sound .H-high)
+
+  pub lots-for : Lots (t .cores) begins asks
+  lots-for = record { few = s .cores-in .high; each = λ q h. slots-on q h .low }
+
 -- the higher tasks of task number k stand from the first of its core to its own place
 pub record Above (t : Table) (k first place : ℕ) (spans costs asks : List ℕ) : Type 0 where
   pub ends : place ≡ first + length (higher t k)
@@ -56,7 +70,8 @@ pub record Above (t : Table) (k first place : ℕ) (spans costs asks : List ℕ)
 
 abbrev pub termsFor : Table → ℕ → ℕ → ℕ → List ℕ → List ℕ → List ℕ → List ℕ → Terms
 termsFor t k first place begins spans costs asks =
-    termsOf (ownWith (C (taskOf t k)) (H (taskOf t k)) (latest (taskOf t k)) (costsOf t (coreOf t k)) (t .cores) first place) begins spans costs asks
+    let own = costsOf t (coreOf t k) in
+    termsOf (ownWith (C (taskOf t k)) (H (taskOf t k)) (latest (taskOf t k)) (own .request) (othersWith (t .cores) (own .weight) (twiceOn begins asks)) first place) begins spans costs asks
 
 -- a sum over the cores, by number and by place
 below-none : (g : ℕ → ℕ) → sumOver (upTo 0) g ≡ sumBelow (λ q. g (q + 1)) 0
@@ -81,21 +96,21 @@ module _ (t : Table) (k : ℕ) {first place : ℕ} {begins spans costs asks : Li
   abbrev price : ℕ → ℕ
   price q = pricesOf t (coreOf t k) .perCore q
 
-  weight-at : (q : ℕ) → q < t .cores → getD (m .own .weight) q (ps 0) .0 ≡ price (q + 1)
+  weight-at : (q : ℕ) → q < t .cores → getD (m .own .others .weight) q (ps 0) .0 ≡ price (q + 1)
   unfolding costsOf
   weight-at q h =
       let less : q + 1 - 1 ≡ q = omega arith in
       rw less at (ap (λ (x : Picos). x .0) (place-of (ps 0) (λ r. ps (price r)) 8 (t .cores) (q + 1) (omega arith) (omega arith)))
 
-  charge-is : (x q : ℕ) → q < t .cores → chargeOf (m .own) begins spans asks x q ≡ arrivals t (q + 1) x * price (q + 1)
-  unfolding chargeOf arrivals releases
-  charge-is x q h = let j = g q h in rw (weight-at q h, asked-is (j .periods) (j .requests) (j .next) 1 x)
+  arrived-is : (x q : ℕ) → q < t .cores → arrivedOn begins spans asks x q ≡ arrivals t (q + 1) x
+  unfolding arrivedOn arrivals releases
+  arrived-is x q h = let j = g q h in asked-is (j .periods) (j .requests) (j .next) 1 x
 
   job-is : (x : ℕ) → jobOf m x ≡ job (memoryOf t (coreOf t k)) x
-  unfolding jobOf job jobAt
+  unfolding jobOf jobBy weighed job jobAt
   job-is x =
       rw (memory-priced t (coreOf t k))
-      (below-same _ _ (t .cores) (charge-is x) ∙ sym (below-cores (λ q. arrivals t q x * price q) (t .cores)))
+      (below-same _ _ (t .cores) (λ q h. rw (arrived-is x q h, weight-at q h)) ∙ sym (below-cores (λ q. arrivals t q x * price q) (t .cores)))
 
   request-is : (x : ℕ) → requestOf m x ≡ request (memoryOf t (coreOf t k)) (taskOf t k) (higher t k) x
   unfolding requestOf request releases costsOf
@@ -134,17 +149,8 @@ module _ (t : Table) (k : ℕ) {first place : ℕ} {begins spans costs asks : Li
   -- ---- they are fair
 
   module _ (s : Sound t) (low : 1 ≤ k) (high : k ≤ t .tasks) where
-    sound-on : (q : ℕ) (j : Task) → List·Memᴰ j (tasksOn t q) → SoundTask (t .cores) j
-    unfolding tasksOn
-    sound-on q j mem = sound-all t s (member-those (isOn q) (tasksOf t) mem .0)
-
-    group-of : (q : ℕ) → q < t .cores → Group (m .own) begins spans asks q
-    group-of q h =
-        let j = g q h in
-        record {
-          slots = slots-are (j .periods) (j .requests) (j .next) (j .few) (sound-on (q + 1)) (λ i sound. sound .H-high);
-          weight-high = rw (weight-at q h) (price-bounded t s (coreOf t k) (q + 1));
-        }
+    group-of : (q : ℕ) → q < t .cores → Group (m .own .others) begins spans asks q
+    group-of q h = record { slots = slots-on t s g q h; weight-high = rw (weight-at q h) (price-bounded t s (coreOf t k) (q + 1)) }
 
     fair-for : Fair m
     fair-for =
@@ -157,7 +163,7 @@ module _ (t : Table) (k : ℕ) {first place : ℕ} {begins spans costs asks : Li
               slots-are (above .periods) (above .execs) (above .ends) (above .few) sound
               (λ i sound. omega (arith, sound .C-in .high, sound .D-in .high, sound .T-in .high));
           asks = slots-are (above .periods) (above .requests) (above .ends) (above .few) sound (λ i sound. sound .H-high);
-          groups = record { few = s .cores-in .high; each = group-of };
+          groups = record { few = s .cores-in .high; each = group-of; floor-is = refl };
         }
 
     pub ready-for : (start : ℕ) → start ≤ latest (taskOf t k) → Ready m start

@@ -124,7 +124,10 @@ pub fn judge_task(table: Table, k: u8, start: u64) -> Climbed
     let first = from[p];
     let place = groups::place(i, first, &core);
     let cost = board.costs[p];
-    let own = rounds::own_at(cost, board.cores, first, place, latest[i], &costs, &asks);
+    let weight = cost.weight;
+    let doubled = floors::doubled(board.cores, &from, &asks);
+    let others = floors::with_floor(board.cores, weight, &doubled);
+    let own = rounds::own_at(cost.request, others, first, place, latest[i], &costs, &asks);
     climb::settle(own, &from, &spans, &invs, &costs, &asks, start)
 }
 

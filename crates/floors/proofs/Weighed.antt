@@ -2,13 +2,13 @@
 use mathlib.Core.Path.{_≡_, refl, ap, _∙_}
 use mathlib.Core.List.{List}
 use Prim.Native.Nat.{ℕ, _+_, _-_, _*_, _≤_, _<_, _^_, zero-le}
-use native.Mathlib.Nat.{mul-le-mul}
+use native.Mathlib.Nat.{mul-le-mul, mul-le-mul-right}
 use native.Mathlib.Omega.{arith}
 use lib.ListN.{getD}
 use Rattle.rules.specs.declared.Picos.{Picos}
 use Rattle.rules.specs.Units.{ps}
 use Rattle.counts.specs.Counts.{sumBelow, sumFrom, twiceOf, Bounded}
-use Rattle.counts.proofs.Sums.{below-next, below-same, below-plus, below-high, below-fewer}
+use Rattle.counts.proofs.Sums.{below-next, below-mono, below-same, below-plus, below-high, below-fewer}
 use Rattle.floors.specs.declared.Others.{Others}
 use Rattle.floors.specs.Floors.{weighedAt, weighed, twiceOn, Doubled, FitsAt, othersWith}
 
@@ -23,6 +23,10 @@ module _ (cores : ℕ) (weight : List Picos) where
   pub weighed-same : (f g : ℕ → ℕ) → ((q : ℕ) → q < cores → f q ≡ g q) → weighed cores weight f ≡ weighed cores weight g
   unfolding weighed
   weighed-same f g same = below-same _ _ cores (λ q h. rw (same q h))
+
+  pub weighed-mono : (f g : ℕ → ℕ) → ((q : ℕ) → f q ≤ g q) → weighed cores weight f ≤ weighed cores weight g
+  unfolding weighed
+  weighed-mono f g less = below-mono _ _ cores (λ q. mul-le-mul-right _ (less q))
 
   pub weighed-plus : (f g : ℕ → ℕ) → weighed cores weight (λ q. f q + g q) ≡ weighed cores weight f + weighed cores weight g
   unfolding weighed

@@ -7,12 +7,15 @@ use lib.ListN.{length, getD}
 use Rattle.laws.specs.Idioms.{Within, entry, upTo, filled}
 use Rattle.rules.specs.declared.Refusal.{Refusal}
 use Rattle.rules.specs.declared.AllJudged.{AllJudged}
+use Rattle.rules.specs.declared.Picos.{Picos}
 use Rattle.rules.specs.Judgement.{misses}
 use Rattle.rules.specs.Chain.{isAccepted, first, _orElse_}
 use Rattle.rules.specs.Operations.{noAnswers}
 use Rattle.prices.specs.declared.CoreCosts.{CoreCosts}
 use Rattle.prices.specs.Costs.{noCosts}
 use Rattle.groups.specs.Grouped.{placesOn}
+use Rattle.floors.specs.declared.Others.{Others}
+use Rattle.floors.specs.Floors.{Lots, twiceOn, othersWith}
 use Rattle.terms.specs.declared.Own.{Own}
 use Rattle.climb.specs.declared.Climbed.{Climbed}
 use Rattle.terms.specs.Terms.{Terms, termsOf}
@@ -34,28 +37,22 @@ abbrev pub lentOf : Priced → List ℕ → List ℕ → List ℕ → List ℕ �
 lentOf board core latest begins periods execs asks =
     record { board = board; core = core; latest = latest; begins = begins; periods = periods; execs = execs; asks = asks }
 
-abbrev pub ownWith : ℕ → ℕ → ℕ → CoreCosts → ℕ → ℕ → ℕ → Own
-ownWith exec requests latest cost cores first place =
-    record {
-      exec = exec;
-      requests = requests;
-      latest = latest;
-      delay = cost .request;
-      weight = cost .weight;
-      cores = cores;
-      first = first;
-      place = place;
-    }
+abbrev pub ownWith : ℕ → ℕ → ℕ → Picos → Others → ℕ → ℕ → Own
+ownWith exec requests latest delay others first place =
+    record { exec = exec; requests = requests; latest = latest; delay = delay; others = others; first = first; place = place }
 
 -- where the task in place i stands: after those before it on its core
 unfoldable pub placeAt : Lent → ℕ → ℕ
 placeAt l i = getD (l .begins) (getD (l .core) i 0 - 1) 0 + length (placesOn (l .core) (getD (l .core) i 0) i)
 
--- its own figures, and the terms of its equation
+-- what its core costs; its own figures, and the terms of its equation
+abbrev pub costAt : Lent → ℕ → CoreCosts
+costAt l i = entry noCosts (l .board .costs) (getD (l .core) i 0)
+
 abbrev pub ownAt : Lent → ℕ → Own
 ownAt l i =
-    ownWith (getD (l .execs) (placeAt l i) 0) (getD (l .asks) (placeAt l i) 0) (getD (l .latest) i 0) (entry noCosts (l .board .costs) (getD (l .core) i 0)) (l .board .cores)
-    (getD (l .begins) (getD (l .core) i 0 - 1) 0) (placeAt l i)
+    ownWith (getD (l .execs) (placeAt l i) 0) (getD (l .asks) (placeAt l i) 0) (getD (l .latest) i 0) (costAt l i .request)
+    (othersWith (l .board .cores) (costAt l i .weight) (twiceOn (l .begins) (l .asks))) (getD (l .begins) (getD (l .core) i 0 - 1) 0) (placeAt l i)
 
 abbrev pub termsAt : Lent → ℕ → Terms
 termsAt l i = termsOf (ownAt l i) (l .begins) (l .periods) (l .execs) (l .asks)
@@ -69,6 +66,7 @@ pub record Judgeable (l : Lent) : Type 0 where
   pub few : l .board .tasks ≤ 32
   pub long : length (l .begins) ≡ 9
   pub costs-long : length (l .board .costs) ≡ 8
+  pub lots : Lots (l .board .cores) (l .begins) (l .asks)
   pub core-in : (i : ℕ) → i < l .board .tasks → Within 1 8 (getD (l .core) i 0)
   pub place-low : (i : ℕ) → i < l .board .tasks → placeAt l i ≤ 32
   pub ready : (i start : ℕ) → i < l .board .tasks → start ≤ getD (l .latest) i 0 → Ready (termsAt l i) start

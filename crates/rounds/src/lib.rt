@@ -3,8 +3,10 @@ ghost use mathlib.Core.Path.{_≡_};
 ghost use Prim.Native.Nat.{_≤_};
 ghost use lib.ListN.{getD};
 ghost use Rattle.rounds.specs.Lent.{Lent, ownWith, lentOf, Judgeable, judgedLent};
+use floors::Others;
 use prices::CoreCosts;
 use rules::AllJudged;
+use rules::Picos;
 use rules::refused;
 use terms::Own;
 use unjudged::late;
@@ -18,10 +20,10 @@ pub struct Priced {
     pub costs: [CoreCosts; 8],
 }
 
-// The judged task's own figures: C and H from its place, its core's costs, the place of its core's first task and its own.
+// The judged task's own figures: C and H from its place, RD of its core and what it meets of the others, the place of its core's first task and its own.
 pub fn own_at(
-    cost: CoreCosts,
-    cores: usize,
+    delay: Picos,
+    others: Others,
     first: usize,
     place: usize,
     latest: u64,
@@ -29,17 +31,14 @@ pub fn own_at(
     asks: &[u64; 33],
 ) -> Own
     requires { ⌜ place ≤ 32 ⌝ }
-    ensures { λ r. ⌜ r ≡ ownWith (getD (now (costs .entry)) place 0) (getD (now (asks .entry)) place 0) latest cost cores first place ⌝ }
+    ensures { λ r. ⌜ r ≡ ownWith (getD (now (costs .entry)) place 0) (getD (now (asks .entry)) place 0) latest delay others first place ⌝ }
 {
-    let delay = cost.request;
-    let weight = cost.weight;
     Own {
         exec: costs[place],
         requests: asks[place],
         latest,
         delay,
-        weight,
-        cores,
+        others,
         first,
         place,
     }
@@ -66,6 +65,7 @@ pub fn judge_lent(
     let mut refusal = late(board.tasks, latest, starts);
     let mut end = unless_refused(refusal, board.tasks);
     let invs = releases::inverses(board.tasks, spans);
+    let doubled = floors::doubled(board.cores, from, asks);
     let mut next = *from;
     let mut i: usize = 0;
     while i < end {
@@ -73,7 +73,9 @@ pub fn judge_lent(
         let place = next[p];
         next[p] = place + 1;
         let cost = board.costs[p];
-        let own = own_at(cost, board.cores, from[p], place, latest[i], costs, asks);
+        let weight = cost.weight;
+        let others = floors::with_floor(board.cores, weight, &doubled);
+        let own = own_at(cost.request, others, from[p], place, latest[i], costs, asks);
         let climbed = climb::settle(own, from, spans, &invs, costs, asks, starts[i]);
         if climbed.high {
             refusal = refused(14, (i as u8) + 1);

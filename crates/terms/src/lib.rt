@@ -2,8 +2,8 @@
 ghost use mathlib.Core.Path.{_≡_};
 ghost use Prim.Native.Nat.{_*_, _^_, _≤_, min};
 ghost use Rattle.releases.specs.Releases.{Small};
-ghost use Rattle.counts.specs.Counts.{Slots};
-ghost use Rattle.terms.specs.Terms.{Charged, Groups, Delayed, Fair, termsOf, applied};
+ghost use Rattle.terms.specs.Terms.{Fair, termsOf, applied};
+use floors::Others;
 use rules::Delay;
 use rules::Picos;
 
@@ -21,68 +21,16 @@ fn capped(a: u64, b: u64) -> u64
     }
 }
 
-// What the tasks of a core, those in places a to e, cost, each with the job that it carries in, at so much a request. Of a core whose requests
-// cost nothing, as the own core's, nothing is counted.
-fn charged(
-    a: usize,
-    e: usize,
-    periods: &[u64; 33],
-    invs: &[u64; 33],
-    asks: &[u64; 33],
-    weight: u64,
-    t: u64,
-) -> u64
-    requires { ⌜ (t ≤ 10 ^ 12) × (weight ≤ 2 * 10 ^ 7) × Small (now invs) ⌝ }
-    requires { ⌜ Slots (10 ^ 6) a e (now periods) (now asks) ⌝ }
-    ensures { λ r. ⌜ Charged a e (now (periods .entry)) (now (asks .entry)) weight t r ⌝ }
-{
-    if weight == 0 {
-        return 0;
-    }
-    counts::asked(a, e, periods, invs, asks, t) * weight
-}
-
-// The judged task's own figures: C, H and the latest allowed response; RD of its core, and the weight there of one request of each core; how
-// many cores there are; the place of its core's first task, and its own.
+// The judged task's own figures: C, H and the latest allowed response; RD of its core, and what it meets of the others; the place of its core's first
+// task, and its own.
 pub struct Own {
     pub exec: u64,
     pub requests: u64,
     pub latest: u64,
     pub delay: Picos,
-    pub weight: [Picos; 8],
-    pub cores: usize,
+    pub others: Others,
     pub first: usize,
     pub place: usize,
-}
-
-// Job, core by core.
-fn job(
-    own: Own,
-    from: &[usize; 9],
-    periods: &[u64; 33],
-    invs: &[u64; 33],
-    asks: &[u64; 33],
-    t: u64,
-) -> u64
-    requires { ⌜ (t ≤ 10 ^ 12) × Small (now invs) ⌝ }
-    requires { ⌜ Groups own (now from) (now periods) (now asks) ⌝ }
-    ensures { λ r. ⌜ Delayed own (now (from .entry)) (now (periods .entry)) (now (asks .entry)) t r ⌝ }
-{
-    let mut sum: u64 = 0;
-    let mut q: usize = 0;
-    while q < own.cores {
-        sum += charged(
-            from[q],
-            from[q + 1],
-            periods,
-            invs,
-            asks,
-            own.weight[q].0,
-            t,
-        );
-        q += 1;
-    }
-    sum
 }
 
 // What F gives, and which of the two delays decided.
@@ -91,7 +39,7 @@ pub struct Applied {
     pub by: Delay,
 }
 
-// F. Request may be far above 64 bits; capped, it is above job where it was.
+// F. Request may be far above 64 bits; capped, it is above job where it was. Of job as much is added up as decides.
 pub fn apply(
     own: Own,
     from: &[usize; 9],
@@ -110,7 +58,7 @@ pub fn apply(
     let requests = own.requests + higher.requests;
     let delay = own.delay.0;
     let request = capped(delay, requests);
-    let job = job(own, from, periods, invs, asks, t);
+    let job = job::reached(own.others, request, from, periods, invs, asks, t);
     if request <= job {
         Applied {
             time: exec + request,

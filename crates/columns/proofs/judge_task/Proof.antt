@@ -9,7 +9,8 @@ use Rattle.groups.proofs.PlacesOn.{low-zeros}
 use Rattle.terms.specs.Terms.{Terms}
 use Rattle.climb.specs.Run.{climbed}
 use Rattle.rounds.specs.Lent.{Lent, lentOf, placeAt, Judgeable}
-use Rattle.rounds.proofs.Here.{here-terms, here-ready, cost-at}
+use Rattle.floors.proofs.Weighed.{others-are}
+use Rattle.rounds.proofs.Here.{here-terms, here-ready, cost-at, fits-at}
 use Rattle.columns.specs.Numbered.{climbedFor}
 use Rattle.columns.proofs.Holding.{of-judgeable, of-climbed, tasks-are}
 use Rattle.columns.proofs.judge_task.Statement.{statement}
@@ -58,23 +59,31 @@ stands : (c : tie.After-place) → c .place .result ≡ placeAt (lent (c .before
 unfolding placeAt
 stands c = c .place .ensures
 
+with-floor-requires : tie.Need-with-floor-requires
+with-floor-requires c κs =
+    let filled = c .before .before .before .before .before .before .before .before .before .before in
+    fits-at (lent filled) (judgeable filled) (i filled) (counted filled) (cost-at (lent filled) (judgeable filled) (i filled) (counted filled) _) (c .before .doubled .ensures)
+
 settle-requires : tie.Need-settle-requires
 settle-requires c κs =
-    let filled = c .before .before .before .before .before .before .before .before .before .before .before .before .before in
-    let cost = cost-at (lent filled) (judgeable filled) (i filled) (counted filled) _ in (
-      c .before .before .before .before .before .before .before .before .before .before .before .inverses .ensures,
-      rw (c .before .before .before .before .before .own-at .ensures)
-          (here-ready (lent filled) (i filled) (stands (c .before .before .before .before .before .before .before .before .before)) cost (judgeable filled) _ (counted filled) (in-time filled)),
+    let w = c .before .before .before .before .before .before .before .before in
+    let filled = w .before .before .before .before .before .before .before .before .before .before .before in
+    let cost = cost-at (lent filled) (judgeable filled) (i filled) (counted filled) _ in
+    let others = w .with-floor .ensures ∙ others-are _ _ (w .before .before .doubled .ensures) in (
+      c .before .before .before .before .before .before .before .before .before .before .before .before .before .before .before .before .before .inverses .ensures,
+      rw (c .before .before .before .before .before .own-at .ensures, others) (here-ready (lent filled) (i filled) (stands (w .before .before .before .before .before .before .before)) cost (judgeable filled) _ (counted filled) (in-time filled)),
     )
 
 returns : tie.Need-returns
 returns c =
-    let filled = c .before .before .before .before .before .before .before .before .before .before .before .before .before .before in
+    let w = c .before .before .before .before .before .before .before .before .before in
+    let filled = w .before .before .before .before .before .before .before .before .before .before .before in
     let cost = cost-at (lent filled) (judgeable filled) (i filled) (counted filled) _ in
+    let others = w .with-floor .ensures ∙ others-are _ _ (w .before .before .doubled .ensures) in
     let a = start filled .args in
     let back : a .k - 1 + 1 ≡ a .k = omega (arith, start filled .pre .1 .0 .low) in
     c .settle .ensures
-    ∙ rw (c .before .before .before .before .before .before .own-at .ensures) (ap (λ (m : Terms). climbed m (a .start)) (here-terms (lent filled) (i filled) (stands (c .before .before .before .before .before .before .before .before .before .before)) cost))
+    ∙ rw (c .before .before .before .before .before .before .own-at .ensures, others) (ap (λ (m : Terms). climbed m (a .start)) (here-terms (lent filled) (i filled) (stands (w .before .before .before .before .before .before .before)) cost))
     ∙ of-climbed (a .table) (start filled .pre .0) (filled .laid .ensures) (i filled) (here filled) (a .start)
     ∙ ap (λ (k : ℕ). climbedFor (a .table) k (a .start)) back
 
@@ -85,5 +94,6 @@ judge-task-spec =
     (λ c. few (c .before .before)) (λ c. omega (arith, core-in (c .before .before) .high)) (λ c. core-in (c .before .before) .low)
     (λ c. omega (arith, core-in (c .before .before) .high)) (λ c. omega (arith, core-in (c .before .before) .high)) place-requires
     (λ c. omega (arith, core-in (c .before .before .before .before) .high)) (λ c. omega (arith, core-in (c .before .before .before .before) .low, core-in (c .before .before .before .before) .high))
-    (λ c. omega (arith, few (c .before .before .before .before .before))) (λ c. few (c .before .before .before .before .before))
-    (λ c κs. let filled = c .before .before .before .before .before .before .before in omega (arith, stands (c .before .before .before), judgeable filled .place-low (i filled) (counted filled))) settle-requires returns)
+    (λ c κs. judgeable (c .before .before .before .before .before .before .before .before) .lots) with-floor-requires
+    (λ c. omega (arith, few (c .before .before .before .before .before .before .before .before .before .before .before))) (λ c. few (c .before .before .before .before .before .before .before .before .before .before .before))
+    (λ c κs. let filled = c .before .before .before .before .before .before .before .before .before .before .before .before .before in omega (arith, stands (c .before .before .before .before .before .before .before .before .before), judgeable filled .place-low (i filled) (counted filled))) settle-requires returns)

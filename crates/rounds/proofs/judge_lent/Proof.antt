@@ -8,19 +8,20 @@ use lib.ListN.{getD}
 use Rattle.laws.specs.Idioms.{Within}
 use Rattle.climb.specs.declared.Climbed.{Climbed}
 use Rattle.rounds.specs.Lent.{Lent, lentOf, placeAt, climbedAt}
+use Rattle.floors.proofs.Weighed.{others-are}
 use Rattle.unjudged.proofs.OnTime.{on-time}
 use Rattle.rounds.proofs.Nexts.{Nexts, nexts-none, nexts-next, next-at}
-use Rattle.rounds.proofs.Here.{here-ready, here-gives, cost-at}
+use Rattle.rounds.proofs.Here.{here-ready, here-gives, cost-at, fits-at}
 use Rattle.rounds.proofs.Judging.{Judging, Running, judging-starts, still-running, stops-high, goes-on-low, judging-done}
 use Rattle.rounds.proofs.judge_lent.Statement.{statement}
 use Rattle.rounds.proofs.judge_lent.Tie as tie
 
 abbrev Inv-loop : tie.InvT-loop
-Inv-loop core latest starts from spans costs asks board answers₀ refusal₀ end₀ invs next₀ i₀ answers refusal end next i =
+Inv-loop core latest starts from spans costs asks board answers₀ refusal₀ end₀ invs doubled next₀ i₀ answers refusal end next i =
     Judging (lentOf board core latest from spans costs asks) starts i end refusal answers × Nexts core from next i
 
 abbrev μ-loop : tie.MeasureT-loop
-μ-loop core latest starts from spans costs asks board answers₀ refusal₀ end₀ invs next₀ i₀ answers refusal end next i = end - i
+μ-loop core latest starts from spans costs asks board answers₀ refusal₀ end₀ invs doubled next₀ i₀ answers refusal end next i = end - i
 
 -- what is lent
 module _ (s : tie.Start Inv-loop μ-loop) where
@@ -29,13 +30,13 @@ module _ (s : tie.Start Inv-loop μ-loop) where
 
 loop-holds : tie.Need-loop-holds Inv-loop μ-loop
 loop-holds c =
-    let s = c .before .before .before .before .before in
-    (judging-starts (lent s) (s .args .starts .now) (c .before .before .before .late .ensures) (c .before .before .unless-refused .ensures) (c .before .before .before .before .no-answers .ensures), nexts-none _ (s .pre .long))
+    let s = c .before .before .before .before .before .before in
+    (judging-starts (lent s) (s .args .starts .now) (c .before .before .before .before .late .ensures) (c .before .before .before .unless-refused .ensures) (c .before .before .before .before .before .no-answers .ensures), nexts-none _ (s .pre .long))
 
 -- the task in the loop's place
 module _ (c : tie.In-loop Inv-loop μ-loop) where
   abbrev start : tie.Start Inv-loop μ-loop
-  start = c .before .before .before .before .before .before .before
+  start = c .before .before .before .before .before .before .before .before
 
   abbrev i : ℕ
   i = c .before .loop .i
@@ -62,29 +63,42 @@ module _ (c : tie.In-loop Inv-loop μ-loop) where
   place-low : place ≤ 32
   place-low = omega (arith, stands, start .pre .place-low i here)
 
+with-floor-requires : tie.Need-with-floor-requires Inv-loop μ-loop
+with-floor-requires c κs =
+    let p = c .before .before .before .before in
+    let s = start p in
+    fits-at (lent s) (s .pre) (i p) (here p) (cost-at (lent s) (s .pre) (i p) (here p) _) (p .before .before .before .doubled .ensures)
+
 settle-requires : tie.Need-settle-requires Inv-loop μ-loop
 settle-requires c κs =
-    let p = c .before .before .before .before .before .before .before in
+    let w = c .before .before .before .before .before in
+    let p = w .before .before .before .before .before in
+    let others = w .with-floor .ensures ∙ others-are _ _ (p .before .before .before .doubled .ensures) in
     let s = start p in (
-      c .before .before .before .before .before .before .before .before .before .before .inverses .ensures,
-      rw (c .before .before .own-at .ensures) (here-ready (lent s) (i p) (stands p) (cost-at (lent s) (s .pre) (i p) (here p) _) (s .pre) _ (here p) (on-time (s .args .latest .now) (s .args .starts .now) (s .args .t1 .tasks) (runs p .none-late) .each (i p) (here p))),
+      p .before .before .before .before .inverses .ensures,
+      rw (c .before .before .own-at .ensures, others) (here-ready (lent s) (i p) (stands p) (cost-at (lent s) (s .pre) (i p) (here p) _) (s .pre) _ (here p) (on-time (s .args .latest .now) (s .args .starts .now) (s .args .t1 .tasks) (runs p .none-late) .each (i p) (here p))),
     )
 
-gives : (c : tie.After-settle Inv-loop μ-loop) → let p = c .before .before .before .before .before .before .before .before in c .settle .result ≡ climbedAt (lent (start p)) (start p .args .starts .now) (i p + 1)
+abbrev at-end : tie.After-settle Inv-loop μ-loop → tie.In-loop Inv-loop μ-loop
+at-end c = c .before .before .before .before .before .before .before .before .before .before .before
+
+gives : (c : tie.After-settle Inv-loop μ-loop) → let p = c .before .before .before .before .before .before .before .before .before .before .before in c .settle .result ≡ climbedAt (lent (start p)) (start p .args .starts .now) (i p + 1)
 gives c =
-    let p = c .before .before .before .before .before .before .before .before in
+    let w = c .before .before .before .before .before .before in
+    let p = w .before .before .before .before .before in
+    let others = w .with-floor .ensures ∙ others-are _ _ (p .before .before .before .doubled .ensures) in
     let s = start p in
     c .settle .ensures
-    ∙ rw (c .before .before .before .own-at .ensures) (here-gives (lent s) (i p) (stands p) (cost-at (lent s) (s .pre) (i p) (here p) _) (s .args .starts .now))
+    ∙ rw (c .before .before .before .own-at .ensures, others) (here-gives (lent s) (i p) (stands p) (cost-at (lent s) (s .pre) (i p) (here p) _) (s .args .starts .now))
 
 loop-less : tie.Need-loop-less Inv-loop μ-loop
 loop-less c =
-    let test = c .before .before .before .before .before .before .before .before .before .loop-test .taken in
+    let test = at-end (c .before) .loop-test .taken in
     ⊎-elim (λ w. omega (arith, test, w .5)) (λ w. omega (arith, test, w .4)) (c .if1 .came)
 
 loop-again : tie.Need-loop-again Inv-loop μ-loop
 loop-again c =
-    let p = c .before .before .before .before .before .before .before .before .before in
+    let p = at-end (c .before) in
     let s = start p in
     let high = ap (λ (r : Climbed). r .high) (gives (c .before)) in (
       ⊎-elim
@@ -97,12 +111,14 @@ loop-again c =
 pub judge-lent-spec : {M : Type 1} → statement M
 judge-lent-spec =
     tie.close
-    (tie.spec Inv-loop μ-loop (λ c κs. search needs) (λ c κs. c .before .pre .few) (λ c κs. search needs) (λ c κs. omega (arith, c .before .before .before .pre .few)) loop-holds few
+    (tie.spec Inv-loop μ-loop (λ c κs. search needs) (λ c κs. c .before .pre .few) (λ c κs. search needs) (λ c κs. omega (arith, c .before .before .before .pre .few))
+    (λ c κs. c .before .before .before .before .pre .lots) loop-holds few
     (λ c. omega (arith, core-in (c .before) .high)) (λ c. core-in (c .before) .low) (λ c. omega (arith, core-in (c .before) .high)) (λ c. omega (arith, core-in (c .before) .high))
     (λ c. omega (arith, place-low (c .before))) (λ c. omega (arith, core-in (c .before) .high)) (λ c. omega (arith, core-in (c .before) .high)) (λ c. omega (arith, core-in (c .before) .high))
-    (λ c. omega (arith, core-in (c .before) .low, core-in (c .before) .high)) (λ c. omega (arith, core-in (c .before .before) .high)) (λ c. omega (arith, core-in (c .before .before) .high))
-    (λ c. omega (arith, few (c .before .before .before))) (λ c. few (c .before .before .before)) (λ c κs. place-low (c .before .before .before .before))
-    (λ c. omega (arith, few (c .before .before .before .before .before .before))) (λ c. few (c .before .before .before .before .before .before)) settle-requires
-    (λ c. omega (arith, few (c .before .before .before .before .before .before .before .before .before))) (λ c. omega (arith, few (c .before .before .before .before .before .before .before .before .before))) (λ c κs. search needs) (λ c κs. search needs)
-    (λ c. omega (arith, few (c .before .before .before .before .before .before .before .before .before .before))) (λ c. few (c .before .before .before .before .before .before .before .before .before .before)) (λ c. omega (arith, few (c .before .before .before .before .before .before .before .before .before))) loop-less loop-again
+    (λ c. omega (arith, core-in (c .before) .low, core-in (c .before) .high)) with-floor-requires
+    (λ c. omega (arith, core-in (c .before .before .before .before .before) .high)) (λ c. omega (arith, core-in (c .before .before .before .before .before) .high))
+    (λ c. omega (arith, few (c .before .before .before .before .before .before))) (λ c. few (c .before .before .before .before .before .before)) (λ c κs. place-low (c .before .before .before .before .before .before .before))
+    (λ c. omega (arith, few (c .before .before .before .before .before .before .before .before .before))) (λ c. few (c .before .before .before .before .before .before .before .before .before)) settle-requires
+    (λ c. omega (arith, few (at-end (c .before)))) (λ c. omega (arith, few (at-end (c .before)))) (λ c κs. search needs) (λ c κs. search needs)
+    (λ c. omega (arith, few (at-end (c .before .before)))) (λ c. few (at-end (c .before .before))) (λ c. omega (arith, few (at-end (c .before)))) loop-less loop-again
     (λ c. judging-done _ _ (omega arith) (c .before .loop .inv .0)))

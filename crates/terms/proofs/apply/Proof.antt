@@ -10,15 +10,15 @@ returns : tie.Need-returns
 unfolding jobOf
 returns c =
     let higher = c .before .before .before .before .before .before .before .asked-higher .ensures in
-    let job = c .before .job .ensures in
-    by-request _ _ (higher .0 .is) (higher .1 .is) (c .before .before .capped .ensures) (job .is) (omega arith) (search needs)
+    let job = c .before .reached .ensures in
+    by-request _ _ (higher .0 .is) (higher .1 .is) (c .before .before .capped .ensures) job (omega (arith, job .high)) (search needs)
 
 returns-2 : tie.Need-returns-2
 unfolding jobOf
 returns-2 c =
     let higher = c .before .before .before .before .before .before .before .asked-higher .ensures in
-    let job = c .before .job .ensures in
-    by-job _ _ (higher .0 .is) (higher .1 .is) (c .before .before .capped .ensures) (job .is) (omega arith) (search needs)
+    let job = c .before .reached .ensures in
+    by-job _ _ (higher .0 .is) (higher .1 .is) (c .before .before .capped .ensures) job (omega (arith, job .high)) (search needs)
 
 pub apply-spec : {M : Type 1} → statement M
 apply-spec =
