@@ -118,7 +118,8 @@ pub fn judge_task(table: Table, k: u8, start: u64) -> Climbed
         &mut costs,
         &mut asks,
     );
-    let invs = releases::inverses(board.tasks, &spans);
+    let mut invs = [0u64; 33];
+    releases::inverses(board.tasks, &spans, &mut invs);
     let i = (k as usize) - 1;
     let p = (core[i] as usize) - 1;
     let first = from[p];

@@ -22,18 +22,16 @@ fn inverse(period: u64) -> u64
     288230376151711744 / period
 }
 
-// That of the first n periods.
-pub fn inverses(n: usize, periods: &[u64; 33]) -> [u64; 33]
-    requires { ⌜ n ≤ 33 ⌝ }
-    ensures { λ r. ⌜ Small r ⌝ }
+// That of the first n periods. The places are lent, so that they are not copied.
+pub fn inverses(n: usize, periods: &[u64; 33], out: &mut [u64; 33])
+    requires { ⌜ (n ≤ 33) × Small (now out) ⌝ }
+    ensures { λ _. ⌜ Small (now (out .exit)) ⌝ }
 {
-    let mut out = [0u64; 33];
     let mut i: usize = 0;
     while i < n {
         out[i] = inverse(periods[i]);
         i += 1;
     }
-    out
 }
 
 // RULES 5.1 again: 1 where t is within one period; else guessed by a multiplication and tested; divided where the guess is wrong. A difference that

@@ -64,7 +64,8 @@ pub fn judge_lent(
     let mut answers = no_answers();
     let mut refusal = late(board.tasks, latest, starts);
     let mut end = unless_refused(refusal, board.tasks);
-    let invs = releases::inverses(board.tasks, spans);
+    let mut invs = [0u64; 33];
+    releases::inverses(board.tasks, spans, &mut invs);
     let doubled = floors::doubled(board.cores, from, asks);
     let mut next = *from;
     let mut i: usize = 0;

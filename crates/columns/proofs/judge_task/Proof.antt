@@ -9,6 +9,7 @@ use Rattle.groups.proofs.PlacesOn.{low-zeros}
 use Rattle.terms.specs.Terms.{Terms}
 use Rattle.climb.specs.Run.{climbed}
 use Rattle.rounds.specs.Lent.{Lent, lentOf, placeAt, Judgeable}
+use Rattle.releases.proofs.Quotients.{small-none}
 use Rattle.floors.proofs.Weighed.{others-are}
 use Rattle.rounds.proofs.Here.{here-terms, here-ready, cost-at, fits-at}
 use Rattle.columns.specs.Numbered.{climbedFor}
@@ -53,21 +54,21 @@ module _ (c : tie.After-laid) where
   in-time = rw ((c .laid .ensures) .per-task .latest-is i here) (start .pre .1 .1)
 
 place-requires : tie.Need-place-requires
-place-requires c κs = let filled = c .before .before .before in (few filled, first-low filled)
+place-requires c κs = let filled = c .before .before .before .before in (few filled, first-low filled)
 
-stands : (c : tie.After-place) → c .place .result ≡ placeAt (lent (c .before .before .before .before)) (i (c .before .before .before .before))
+stands : (c : tie.After-place) → c .place .result ≡ placeAt (lent (c .before .before .before .before .before)) (i (c .before .before .before .before .before))
 unfolding placeAt
 stands c = c .place .ensures
 
 with-floor-requires : tie.Need-with-floor-requires
 with-floor-requires c κs =
-    let filled = c .before .before .before .before .before .before .before .before .before .before in
+    let filled = c .before .before .before .before .before .before .before .before .before .before .before in
     fits-at (lent filled) (judgeable filled) (i filled) (counted filled) (cost-at (lent filled) (judgeable filled) (i filled) (counted filled) _) (c .before .doubled .ensures)
 
 settle-requires : tie.Need-settle-requires
 settle-requires c κs =
     let w = c .before .before .before .before .before .before .before .before in
-    let filled = w .before .before .before .before .before .before .before .before .before .before .before in
+    let filled = w .before .before .before .before .before .before .before .before .before .before .before .before in
     let cost = cost-at (lent filled) (judgeable filled) (i filled) (counted filled) _ in
     let others = w .with-floor .ensures ∙ others-are _ _ (w .before .before .doubled .ensures) in (
       c .before .before .before .before .before .before .before .before .before .before .before .before .before .before .before .before .before .inverses .ensures,
@@ -77,7 +78,7 @@ settle-requires c κs =
 returns : tie.Need-returns
 returns c =
     let w = c .before .before .before .before .before .before .before .before .before in
-    let filled = w .before .before .before .before .before .before .before .before .before .before .before in
+    let filled = w .before .before .before .before .before .before .before .before .before .before .before .before in
     let cost = cost-at (lent filled) (judgeable filled) (i filled) (counted filled) _ in
     let others = w .with-floor .ensures ∙ others-are _ _ (w .before .before .doubled .ensures) in
     let a = start filled .args in
@@ -90,10 +91,10 @@ returns c =
 pub judge-task-spec : {M : Type 1} → statement M
 judge-task-spec =
     tie.close
-    (tie.spec (λ c κs. ((c .before .before .before .before .before .before .pre .0, refl, refl), (refl, refl, refl))) (λ c κs. omega (arith, judgeable (c .before) .few)) (λ c. search needs)
-    (λ c. few (c .before .before)) (λ c. omega (arith, core-in (c .before .before) .high)) (λ c. core-in (c .before .before) .low)
-    (λ c. omega (arith, core-in (c .before .before) .high)) (λ c. omega (arith, core-in (c .before .before) .high)) place-requires
-    (λ c. omega (arith, core-in (c .before .before .before .before) .high)) (λ c. omega (arith, core-in (c .before .before .before .before) .low, core-in (c .before .before .before .before) .high))
-    (λ c κs. judgeable (c .before .before .before .before .before .before .before .before) .lots) with-floor-requires
-    (λ c. omega (arith, few (c .before .before .before .before .before .before .before .before .before .before .before))) (λ c. few (c .before .before .before .before .before .before .before .before .before .before .before))
-    (λ c κs. let filled = c .before .before .before .before .before .before .before .before .before .before .before .before .before in omega (arith, stands (c .before .before .before .before .before .before .before .before .before), judgeable filled .place-low (i filled) (counted filled))) settle-requires returns)
+    (tie.spec (λ c κs. ((c .before .before .before .before .before .before .pre .0, refl, refl), (refl, refl, refl))) (λ c κs. (omega (arith, judgeable (c .before .before) .few), small-none 33)) (λ c. search needs)
+    (λ c. few (c .before .before .before)) (λ c. omega (arith, core-in (c .before .before .before) .high)) (λ c. core-in (c .before .before .before) .low)
+    (λ c. omega (arith, core-in (c .before .before .before) .high)) (λ c. omega (arith, core-in (c .before .before .before) .high)) place-requires
+    (λ c. omega (arith, core-in (c .before .before .before .before .before) .high)) (λ c. omega (arith, core-in (c .before .before .before .before .before) .low, core-in (c .before .before .before .before .before) .high))
+    (λ c κs. judgeable (c .before .before .before .before .before .before .before .before .before) .lots) with-floor-requires
+    (λ c. omega (arith, few (c .before .before .before .before .before .before .before .before .before .before .before .before))) (λ c. few (c .before .before .before .before .before .before .before .before .before .before .before .before))
+    (λ c κs. let filled = c .before .before .before .before .before .before .before .before .before .before .before .before .before .before in omega (arith, stands (c .before .before .before .before .before .before .before .before .before), judgeable filled .place-low (i filled) (counted filled))) settle-requires returns)

@@ -15,7 +15,7 @@ abbrev μ-loop : tie.MeasureT-loop
 pub inverses-spec : {M : Type 1} → statement M
 inverses-spec =
     tie.close
-    (tie.spec Inv-loop μ-loop (λ c. (search needs, small-none 33)) (λ c. search needs) (λ c. search needs) (λ c κs. search needs) (λ c. search needs)
+    (tie.spec Inv-loop μ-loop (λ c. search needs) (λ c. search needs) (λ c. search needs) (λ c κs. search needs) (λ c. search needs)
     (λ c. search needs) (λ c. search needs) (λ c. search needs)
     (λ c. (search needs, small-next (c .before .before .before .loop .i) (c .before .before .before .loop .inv .1) (c .inverse .ensures)))
     (λ c. c .before .loop .inv .1))

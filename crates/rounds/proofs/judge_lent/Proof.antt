@@ -8,6 +8,7 @@ use lib.ListN.{getD}
 use Rattle.laws.specs.Idioms.{Within}
 use Rattle.climb.specs.declared.Climbed.{Climbed}
 use Rattle.rounds.specs.Lent.{Lent, lentOf, placeAt, climbedAt}
+use Rattle.releases.proofs.Quotients.{small-none}
 use Rattle.floors.proofs.Weighed.{others-are}
 use Rattle.unjudged.proofs.OnTime.{on-time}
 use Rattle.rounds.proofs.Nexts.{Nexts, nexts-none, nexts-next, next-at}
@@ -30,13 +31,13 @@ module _ (s : tie.Start Inv-loop μ-loop) where
 
 loop-holds : tie.Need-loop-holds Inv-loop μ-loop
 loop-holds c =
-    let s = c .before .before .before .before .before .before in
-    (judging-starts (lent s) (s .args .starts .now) (c .before .before .before .before .late .ensures) (c .before .before .before .unless-refused .ensures) (c .before .before .before .before .before .no-answers .ensures), nexts-none _ (s .pre .long))
+    let s = c .before .before .before .before .before .before .before in
+    (judging-starts (lent s) (s .args .starts .now) (c .before .before .before .before .before .late .ensures) (c .before .before .before .before .unless-refused .ensures) (c .before .before .before .before .before .before .no-answers .ensures), nexts-none _ (s .pre .long))
 
 -- the task in the loop's place
 module _ (c : tie.In-loop Inv-loop μ-loop) where
   abbrev start : tie.Start Inv-loop μ-loop
-  start = c .before .before .before .before .before .before .before .before
+  start = c .before .before .before .before .before .before .before .before .before
 
   abbrev i : ℕ
   i = c .before .loop .i
@@ -111,8 +112,8 @@ loop-again c =
 pub judge-lent-spec : {M : Type 1} → statement M
 judge-lent-spec =
     tie.close
-    (tie.spec Inv-loop μ-loop (λ c κs. search needs) (λ c κs. c .before .pre .few) (λ c κs. search needs) (λ c κs. omega (arith, c .before .before .before .pre .few))
-    (λ c κs. c .before .before .before .before .pre .lots) loop-holds few
+    (tie.spec Inv-loop μ-loop (λ c κs. search needs) (λ c κs. c .before .pre .few) (λ c κs. search needs) (λ c κs. (omega (arith, c .before .before .before .before .pre .few), small-none 33))
+    (λ c κs. c .before .before .before .before .before .pre .lots) loop-holds few
     (λ c. omega (arith, core-in (c .before) .high)) (λ c. core-in (c .before) .low) (λ c. omega (arith, core-in (c .before) .high)) (λ c. omega (arith, core-in (c .before) .high))
     (λ c. omega (arith, place-low (c .before))) (λ c. omega (arith, core-in (c .before) .high)) (λ c. omega (arith, core-in (c .before) .high)) (λ c. omega (arith, core-in (c .before) .high))
     (λ c. omega (arith, core-in (c .before) .low, core-in (c .before) .high)) with-floor-requires
