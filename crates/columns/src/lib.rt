@@ -118,18 +118,8 @@ pub fn judge_task(table: Table, k: u8, start: u64) -> Climbed
         &mut costs,
         &mut asks,
     );
-    let mut invs = [0u64; 33];
-    releases::inverses(board.tasks, &spans, &mut invs);
     let i = (k as usize) - 1;
-    let p = (core[i] as usize) - 1;
-    let first = from[p];
-    let place = groups::place(i, first, &core);
-    let cost = board.costs[p];
-    let weight = cost.weight;
-    let doubled = floors::doubled(board.cores, &from, &asks);
-    let others = floors::with_floor(board.cores, weight, &doubled);
-    let own = rounds::own_at(cost.request, others, first, place, latest[i], &costs, &asks);
-    climb::settle(own, &from, &spans, &invs, &costs, &asks, start)
+    single::judge_at(board, i, start, &core, &latest, &from, &spans, &costs, &asks)
 }
 
 // Every task of an accepted table: 13 with the first late start, 14 with the first whose start F lowers, or the answers.

@@ -7,7 +7,7 @@ use floors::Others;
 use rules::Delay;
 use rules::Picos;
 
-// The product, or the largest u64 where it is larger than that. Two numbers below 2^32 need no division to tell.
+// The product, or the largest u64 where it is larger than that. Two numbers below 2^32 need no test.
 fn capped(a: u64, b: u64) -> u64
     ensures { λ r. ⌜ r ≡ min (a * b) 18446744073709551615 ⌝ }
 {

@@ -3,11 +3,11 @@ use mathlib.Core.Path.{_≡_, refl, ap, fun-ext, sym}
 use mathlib.Core.Bool.{Bool, true, false, cond, _&&_}
 use mathlib.Core.List.{List, [], _∷_}
 use Prim.Native.Nat.{ℕ, _+_, _*_, _-_, _/_, _%_, _^_, _≤_}
-use native.Mathlib.Nat.{mul-le-mul, one-mul, mul-le-mul-right}
+use native.Mathlib.Nat.{mul-le-mul, one-mul, mul-le-mul-right, zero-div}
 use native.Mathlib.Decide.{ℕ-discrete}
 use native.Mathlib.Omega.{arith}
 use borrow.Author.Tests.{ne-eqb, eq-eqb}
-use lib.Bits.{bitAnd}
+use lib.Bits.{bitAnd, and-zero-l}
 use lib.Count.{ones}
 use lib.Dec.{eqb}
 use lib.ListN.{length}
@@ -96,6 +96,13 @@ module _ {p nears : ℕ} {fars : List ℕ} {f : Figures} {t : Table} (s : Shows 
   pub weighed : (q : ℕ) → 1 ≤ p → p ≤ t .cores → 1 ≤ q → q ≤ t .cores
       → (entry 0 fars p / 2 ^ (q - 1) % 2 + ones (bitAnd nears (entry 0 fars q))) * f .crossing .0 + nears / 2 ^ (q - 1) % 2 * f .conflict .0 ≡ weight t p q
   weighed q lowp highp low high = rw (fars-at p lowp highp, fars-at q low high, s .near-is, crossing-is, conflict-is, weight-by-bits t p q low high)
+
+  -- where no core is near
+  pub weighed-apart : nears ≡ 0 → (q : ℕ) → 1 ≤ p → p ≤ t .cores → 1 ≤ q → q ≤ t .cores → entry 0 fars p / 2 ^ (q - 1) % 2 * f .crossing .0 ≡ weight t p q
+  unfolding ones
+  weighed-apart none q lowp highp low high =
+      let all = rw (none, and-zero-l (entry 0 fars q), zero-div (2 ^ (q - 1))) at (weighed q lowp highp low high) in
+      omega (arith, all)
 
 -- no more than nine crossings and a conflict
 pub charge-high : {f : Figures} → FiguresBounded f → (n k : ℕ) → n ≤ 9 → k ≤ 1 → n * f .crossing .0 + k * f .conflict .0 ≤ 3 * 10 ^ 7

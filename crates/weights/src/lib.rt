@@ -33,9 +33,12 @@ pub fn weigh(near: u8, far: &[u8; 8], p: usize, q: usize, f: Figures) -> u64
     ensures { λ r. ⌜ r ≤ 3 * 10 ^ 7 ⌝ }
     ensures { λ r. ⌜ ((t : Table) → p ≤ t .cores → q ≤ t .cores → Shows p near (now (far .entry)) f t → r ≡ weight t p q) ⌝ }
 {
-    let crossings = bit(far[p - 1], q) + count(near & far[q - 1]);
-    let conflicts = bit(near, q);
-    crossings * f.crossing.0 + conflicts * f.conflict.0
+    let across = bit(far[p - 1], q);
+    if near != 0 {
+        let crossings = across + count(near & far[q - 1]);
+        return crossings * f.crossing.0 + bit(near, q) * f.conflict.0;
+    }
+    across * f.crossing.0
 }
 
 // RD from what one request of each core costs: the row's part is added, unless no core is near.

@@ -21,7 +21,7 @@ returns c = let last : c .before .loop .i ≡ c .before .before .args .e = omega
 sub-sum : tie.Need-sub-sum Inv-loop μ-loop
 sub-sum c =
     let s = c .before .before .before .before .before in
-    count-some (s .pre .1) (c .before .before .before .before .loop .inv .0) (search needs) (c .up .ensures) (s .pre .0 .0 .low)
+    omega (arith, count-some (s .pre .1) (c .before .before .before .before .loop .inv .0) (search needs) (c .up .ensures) (s .pre .0 .0 .low))
 
 loop-again : tie.Need-loop-again Inv-loop μ-loop
 loop-again c =
