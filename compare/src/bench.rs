@@ -8,6 +8,7 @@ use compare_model::answers;
 use compare_model::file;
 use compare_model::gen::{measured, Draft, Rng};
 use compare_model::judge::{Answer, Judge, Verdict};
+use compare_model::stops::Stops;
 use compare_model::table::TASKS;
 
 use crate::ffi::Linked;
@@ -19,6 +20,9 @@ const TURNS: usize = 15;
 const TURN: Duration = Duration::from_micros(600);
 /// Of so many heavy tables the one with the most rounds is taken.
 const CANDIDATES: usize = 300;
+/// A station pump, and the same after a change (examples/README.md).
+const PUMP_OLDER: &[u8] = include_bytes!("../../examples/pump-older.table");
+const PUMP_NEWER: &[u8] = include_bytes!("../../examples/pump-newer.table");
 
 /// Nanoseconds a call, of the library and of the own reading.
 #[derive(Clone, Copy)]
@@ -57,6 +61,7 @@ struct Subject {
     starts: Vec<u64>,
     fresh_rounds: u64,
     carried_rounds: u64,
+    stops: Stops,
 }
 
 /// What was measured of one table.
@@ -80,17 +85,18 @@ pub fn report(seed: u64) -> String {
          | tasks | cores | load | rounds, fresh | rounds, carried | a round | a round and task |\n\
          |---|---|---|---|---|---|---|\n",
     );
-    for tasks in [4, 16, 32] {
-        for cores in [2, 4, 8] {
-            for heavy in [false, true] {
-                let subject = subject(&mut rng, tasks, cores, heavy);
-                let measured = measure_all(&subject);
-                ratio_row(&mut ratios, &subject, &measured);
-                growth_row(&mut growth, &subject, &measured);
-            }
-        }
+    let mut stops = String::from(
+        "\nHow far job is added up in the rounds of 'judge, fresh' (RULES 5.7).\n\n\
+         | tasks | cores | load | rounds | stop at the floor | stop at a core | never stop |\n\
+         |---|---|---|---|---|---|---|\n",
+    );
+    for subject in subjects(&mut rng) {
+        let measured = measure_all(&subject);
+        ratio_row(&mut ratios, &subject, &measured);
+        growth_row(&mut growth, &subject, &measured);
+        stops_row(&mut stops, &subject);
     }
-    ratios + &growth
+    ratios + &growth + &stops
 }
 
 fn ratio_row(out: &mut String, subject: &Subject, m: &Measured) {
@@ -114,6 +120,25 @@ fn growth_row(out: &mut String, subject: &Subject, m: &Measured) {
     );
 }
 
+fn stops_row(out: &mut String, subject: &Subject) {
+    let Subject { tasks, cores, load, fresh_rounds, stops: Stops { floor, core, never }, .. } = subject;
+    let _ = writeln!(out, "| {tasks} | {cores} | {load} | {fresh_rounds} | {floor} | {core} | {never} |");
+}
+
+/// Tables of every size, light and heavy, and the station pump.
+fn subjects(rng: &mut Rng) -> Vec<Subject> {
+    let mut subjects = Vec::new();
+    for tasks in [4, 16, 32] {
+        for cores in [2, 4, 8] {
+            for heavy in [false, true] {
+                subjects.push(subject(rng, tasks, cores, heavy));
+            }
+        }
+    }
+    subjects.push(prepared("pump", PUMP_OLDER.to_vec(), PUMP_NEWER.to_vec()));
+    subjects
+}
+
 fn subject(rng: &mut Rng, tasks: usize, cores: usize, heavy: bool) -> Subject {
     let candidates = if heavy { CANDIDATES } else { 1 };
     let draft = (0..candidates)
@@ -121,15 +146,21 @@ fn subject(rng: &mut Rng, tasks: usize, cores: usize, heavy: bool) -> Subject {
         .max_by_key(|draft| rounds(&judged(&draft.file(), &[])))
         .expect("there is a candidate");
     let file = draft.file();
-    let raised = raise(draft).file();
+    prepared(if heavy { "heavy" } else { "light" }, file, raise(draft).file())
+}
+
+fn prepared(load: &'static str, file: Vec<u8>, raised: Vec<u8>) -> Subject {
+    let table = file::read(&file).expect("a measured table is accepted");
+    let (tasks, cores) = (usize::from(table.tasks), usize::from(table.cores));
     let fresh = judged(&file, &[]);
     let starts: Vec<u64> = fresh[..tasks].iter().map(bound).collect();
     Subject {
         tasks,
         cores,
-        load: if heavy { "heavy" } else { "light" },
+        load,
         fresh_rounds: rounds(&fresh),
         carried_rounds: rounds(&judged(&raised, &starts)),
+        stops: Judge::of_accepted(&table).stops(cores),
         file,
         raised,
         starts,

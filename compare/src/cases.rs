@@ -7,6 +7,7 @@ use compare_model::judge::{Answer, Judge};
 use compare_model::listing::listing;
 use compare_model::table::{Table, Task, CORES, FIGURES, PARTITIONS, TASKS, T_HIGHEST, T_LOWEST};
 
+use crate::border_cases;
 use crate::bus_cases;
 use crate::comparer::{Comparer, Difference, Reaches};
 use crate::pairs;
@@ -40,6 +41,7 @@ pub fn all(on: &mut Comparer, seed: u64, count: u64) -> Outcome {
     examples(on)?;
     bus_cases::all(on, &mut rng)?;
     wide_totals(on, &mut rng)?;
+    border_cases::all(on, &mut rng)?;
     pairs::reasons(on)?;
     for case in 0..count {
         random(on, &mut rng, case)?;

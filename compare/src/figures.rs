@@ -350,3 +350,24 @@ fn fourth_bytes() {
         }
     }
 }
+
+/// RULES 11.12: the floor of task 1's job delay, what cores 1 to 3 make of it, and which delay decides.
+#[test]
+fn border_of_the_two_delays() {
+    let with = |h| {
+        let tasks = [task(1, 150_000_000, 1_000_000_000, h), task(2, 1, 100_000_000, 6), task(3, 1, 100_000_000, 4)];
+        on_bus(&table(1, &[1, 1, 1], &tasks), 10)
+    };
+    for (h, request, bound, by) in [
+        (10, 200, 150_000_200, By::Request),
+        (13, 260, 150_000_260, By::Request),
+        (15, 300, 150_000_300, By::Request),
+        (16, 320, 150_000_300, By::Job),
+    ] {
+        let table = with(h);
+        let judge = Judge::new(&table).expect("the table is accepted");
+        let (of_requests, sums) = judge.sums(0, bound);
+        assert_eq!((of_requests, &sums[..4]), (request, &[200, 200, 260, 300][..]));
+        assert_eq!(judge.one(1, 0), Ok(Answer { verdict: Verdict::Holds { bound, by }, rounds: 2 }));
+    }
+}

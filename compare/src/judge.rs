@@ -31,8 +31,8 @@ pub struct Answer {
 /// An accepted table with its delays.
 #[derive(Clone, Debug)]
 pub struct Judge<'a> {
-    tasks: &'a [Task],
-    delays: Delays,
+    pub(crate) tasks: &'a [Task],
+    pub(crate) delays: Delays,
 }
 
 impl<'a> Judge<'a> {
@@ -91,7 +91,7 @@ impl<'a> Judge<'a> {
     }
 
     /// F(t) of task `i`, and the delay that is the smaller there.
-    fn response(&self, i: usize, t: u64) -> (u128, By) {
+    pub(crate) fn response(&self, i: usize, t: u64) -> (u128, By) {
         let own = &self.tasks[i];
         let mut execution = u128::from(own.c);
         let mut requests = u128::from(own.h);

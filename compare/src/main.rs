@@ -5,6 +5,7 @@
 
 #[cfg(linked)]
 mod bench;
+mod border_cases;
 mod bus_cases;
 mod cases;
 mod comparer;

@@ -19,9 +19,9 @@ use Rattle.rules.specs.Operations.{taking, reading, checkFile, checkView
 use Rattle.laws.specs.Idioms.{from, numberIn, bytesOf}
 use Rattle.laws.specs.Decimal.{decimal}
 use Rattle.rules.specs.Listing.{delayWord, verdictWords, taskLine, tableLines, refusedLine, tableText, listing, receipt}
-use Rattle.rules.specs.Figures.{ddr3-cap, board, apart2, apart4, sharing2, sharing-and-apart, threeOn, three, listed, listedText, two-solutions, busRow, onBus, sealed, altered3, judgedText, judgedLine}
+use Rattle.rules.specs.Figures.{ddr3-cap, board, apart2, apart4, sharing2, sharing-and-apart, threeOn, three, listed, listedText, two-solutions, busRow, onBus, sealed, altered3, border, judgedText, judgedLine}
 use Rattle.rules.specs.Further.{chain, own-requests, wide, late, rowWith, small, smallWith, two, one}
 
 unfoldable pub every-rule : Unit {0}
-unfolding from numberIn bytesOf ranges ddr3-1333 inTime pre act readwrite hit reopen conf run window releases latest tasksOn higher elsewhere share near far crossing conflict inter intra RD arrivals jinter JD saysBus fourthAllowed slotIn otherCores busRD busJD dramMemory busMemory memoryOf preemption request job delay response decided F decider rounds.climb rounds.solve lowest roundsOf judge sameBoard worseTask worsens firstFrom countsFault figureFault relationsHold relationFault checkTiming busFault checkBus checkRow setFault coreFault timeFault requestFault boardRefusal tasksRefusal checkBoard checkTasks checkTable askedFault lateStart highStart checkJudged checkStart checkOne checkAll setsAt recordsAt recordSize recordAt fileLength recordBytes recordTask runningSum trailer body encode recordIn checkTrailer checkWhole decode taking reading checkFile checkView viewing checkWrite writing outAfter judgeOne answersFrom judgeAll olderBound olderBounds checkBoth faultyOf isCarried rejudging decimal delayWord verdictWords taskLine tableLines refusedLine tableText listing receipt ddr3-cap board apart2 apart4 sharing2 sharing-and-apart threeOn three listed listedText two-solutions busRow onBus sealed altered3 judgedText judgedLine chain own-requests wide late rowWith small smallWith two one
+unfolding from numberIn bytesOf ranges ddr3-1333 inTime pre act readwrite hit reopen conf run window releases latest tasksOn higher elsewhere share near far crossing conflict inter intra RD arrivals jinter JD saysBus fourthAllowed slotIn otherCores busRD busJD dramMemory busMemory memoryOf preemption request job delay response decided F decider rounds.climb rounds.solve lowest roundsOf judge sameBoard worseTask worsens firstFrom countsFault figureFault relationsHold relationFault checkTiming busFault checkBus checkRow setFault coreFault timeFault requestFault boardRefusal tasksRefusal checkBoard checkTasks checkTable askedFault lateStart highStart checkJudged checkStart checkOne checkAll setsAt recordsAt recordSize recordAt fileLength recordBytes recordTask runningSum trailer body encode recordIn checkTrailer checkWhole decode taking reading checkFile checkView viewing checkWrite writing outAfter judgeOne answersFrom judgeAll olderBound olderBounds checkBoth faultyOf isCarried rejudging decimal delayWord verdictWords taskLine tableLines refusedLine tableText listing receipt ddr3-cap board apart2 apart4 sharing2 sharing-and-apart threeOn three listed listedText two-solutions busRow onBus sealed altered3 border judgedText judgedLine chain own-requests wide late rowWith small smallWith two one
 every-rule = tt
