@@ -7,9 +7,9 @@ use native.Mathlib.Nat.{add-sub-cancel-left}
 use lib.ListN.{length, getD, take}
 use lib.Seq.{take-length}
 use Rattle.rules.specs.File.{runningSum}
-use Rattle.sums.specs.Sums.{sumsOf}
+use Rattle.lanes.specs.Sums.{sumsOf}
 use Rattle.laws.proofs.Parts.{part-length}
-use Rattle.sums.proofs.Running.{part-joined, part-fits}
+use Rattle.lanes.proofs.Running.{part-joined, part-fits}
 use Rattle.sums.proofs.sums.Statement.{statement}
 use Rattle.sums.proofs.sums.Tie as tie
 

@@ -1,8 +1,8 @@
 -- The even bytes of a word. Assumes nothing.
 use borrow.Author.Needs.{needs}
-use Rattle.sums.specs.Lanes.{evensOf}
-use Rattle.sums.proofs.evens.Statement.{statement}
-use Rattle.sums.proofs.evens.Tie as tie
+use Rattle.lanes.specs.Lanes.{evensOf}
+use Rattle.lanes.proofs.evens.Statement.{statement}
+use Rattle.lanes.proofs.evens.Tie as tie
 
 pub evens-spec : {M : Type 1} → statement M
 unfolding evensOf

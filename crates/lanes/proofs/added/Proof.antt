@@ -1,8 +1,8 @@
 -- Four lanes added up. Assumes nothing.
 use borrow.Author.Needs.{needs}
-use Rattle.sums.specs.Lanes.{addedOf}
-use Rattle.sums.proofs.added.Statement.{statement}
-use Rattle.sums.proofs.added.Tie as tie
+use Rattle.lanes.specs.Lanes.{addedOf}
+use Rattle.lanes.proofs.added.Statement.{statement}
+use Rattle.lanes.proofs.added.Tie as tie
 
 pub added-spec : {M : Type 1} → statement M
 unfolding addedOf

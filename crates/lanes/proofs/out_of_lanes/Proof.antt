@@ -1,7 +1,7 @@
 -- The two sums out of the lanes. Assumes nothing.
 use borrow.Author.Needs.{needs}
-use Rattle.sums.proofs.out_of_lanes.Statement.{statement}
-use Rattle.sums.proofs.out_of_lanes.Tie as tie
+use Rattle.lanes.proofs.out_of_lanes.Statement.{statement}
+use Rattle.lanes.proofs.out_of_lanes.Tie as tie
 
 returns : tie.Need-returns
 returns c =

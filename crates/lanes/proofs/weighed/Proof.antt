@@ -1,8 +1,8 @@
 -- Lanes as often as there are lanes before them. Assumes nothing.
 use borrow.Author.Needs.{needs}
-use Rattle.sums.specs.Lanes.{weighedOf}
-use Rattle.sums.proofs.weighed.Statement.{statement}
-use Rattle.sums.proofs.weighed.Tie as tie
+use Rattle.lanes.specs.Lanes.{weighedOf}
+use Rattle.lanes.proofs.weighed.Statement.{statement}
+use Rattle.lanes.proofs.weighed.Tie as tie
 
 pub weighed-spec : {M : Type 1} → statement M
 unfolding weighedOf
