@@ -1,33 +1,56 @@
 //! Cases at the border of the two delays (RULES 5.7): a task's requests are set so that its request delay is just what job comes to at its
 //! floor, after some of the cores or after all of them; the least that is above; and one request less.
 
+use compare_model::delay::Delays;
+use compare_model::dram::DDR3_1333;
 use compare_model::file;
 use compare_model::gen::{self, Draft, Rng};
 use compare_model::judge::{Judge, Verdict};
-use compare_model::table::{Table, H_HIGHEST};
+use compare_model::stops::Parts;
+use compare_model::table::{Table, Task, H_HIGHEST, T_LOWEST};
 
 use crate::cases::calls;
 use crate::comparer::{Comparer, Difference};
 
 type Outcome = Result<(), Difference>;
 
-/// How often request was exactly the floor, a sum after some cores, and job.
-#[derive(Default)]
+/// How often request was exactly the floor, a sum between, and all of job.
+#[derive(Debug, Default)]
 struct Met {
     floor: u64,
-    core: u64,
-    job: u64,
+    between: u64,
+    all: u64,
 }
 
 pub fn all(on: &mut Comparer, rng: &mut Rng) -> Outcome {
     let mut met = Met::default();
-    for _ in 0..150 {
+    for _ in 0..100 {
         let draft = gen::draft(rng);
         let i = rng.index(draft.tasks.len());
         around(on, &mut met, &draft, i)?;
+        around(on, &mut met, &even(rng), 0)?;
     }
-    assert!(met.floor.min(met.core).min(met.job) > 0, "the border was not met: {}, {}, {}", met.floor, met.core, met.job);
+    assert!(met.floor.min(met.between).min(met.all) > 0, "the border was not met: {met:?}");
     Ok(())
+}
+
+/// Cores apart, or on a bus, of which each other one sends so many requests that they cost a whole number of task 1's, again and again in its time.
+fn even(rng: &mut Rng) -> Draft {
+    let cores = rng.between(3, 8);
+    let own = rng.between(1, cores);
+    let t = 1000 * T_LOWEST;
+    let mut tasks = vec![Task { core: own as u8, c: rng.between(1, 9 * T_LOWEST), t, d: t, h: 0 }];
+    for core in (1..=cores).filter(|&core| core != own) {
+        let (t, h) = (rng.between(T_LOWEST, 3 * T_LOWEST), (cores - 1) * rng.between(0, 9));
+        tasks.push(Task { core: core as u8, c: 1, t, d: t, h: h as u32 });
+    }
+    let sets = (0..cores).map(|core| 1 << core).collect();
+    let draft = Draft { partitions: cores as u8, fourth: 0, timing: DDR3_1333, sets, tasks };
+    if rng.once_in(2) {
+        draft.on_bus(rng.between(1, 40_000) as u16)
+    } else {
+        draft
+    }
 }
 
 /// Task `i` with requests around each sum, in the time of its bound, or of its C where it misses.
@@ -38,15 +61,20 @@ fn around(on: &mut Comparer, met: &mut Met, draft: &Draft, i: usize) -> Outcome 
         Verdict::Holds { bound, .. } => bound,
         Verdict::Misses => draft.tasks[i].c,
     };
-    let cores = draft.sets.len();
-    let (request, sums) = judge.sums(i, t);
-    for (q, &sum) in sums[..=cores].iter().enumerate() {
+    let Parts { request, sums, .. } = judge.parts(i, t);
+    let mut sums = sums.to_vec();
+    sums.dedup();
+    for (at, &sum) in sums.iter().enumerate() {
         let Some(h) = requests_for(draft, i, request, sum) else { continue };
         for h in [h.saturating_sub(1), h, h + 1] {
             let changed = with_requests(draft, i, h.min(H_HIGHEST));
             calls(on, &changed.file())?;
-            if at(&changed, i, t) == sum {
-                *if q == 0 { &mut met.floor } else if q < cores { &mut met.core } else { &mut met.job } += 1;
+            if request_of(&changed, i, t) == sum {
+                match at {
+                    0 => met.floor += 1,
+                    _ if at + 1 < sums.len() => met.between += 1,
+                    _ => met.all += 1,
+                }
             }
         }
     }
@@ -57,7 +85,7 @@ fn around(on: &mut Comparer, met: &mut Met, draft: &Draft, i: usize) -> Outcome 
 fn requests_for(draft: &Draft, i: usize, request: u128, sum: u128) -> Option<u32> {
     let h = u128::from(draft.tasks[i].h);
     let table = file::read(&draft.file()).expect("a draft is accepted");
-    let rd = compare_model::delay::Delays::new(&table).request(usize::from(draft.tasks[i].core) - 1);
+    let rd = Delays::new(&table).request(usize::from(draft.tasks[i].core) - 1);
     let of_others = request - rd * h;
     sum.checked_sub(of_others)?.checked_div(rd)?.try_into().ok().filter(|&h| h <= H_HIGHEST)
 }
@@ -69,7 +97,7 @@ fn with_requests(draft: &Draft, i: usize, h: u32) -> Draft {
 }
 
 /// The request delay of task `i` in a time.
-fn at(draft: &Draft, i: usize, t: u64) -> u128 {
+fn request_of(draft: &Draft, i: usize, t: u64) -> u128 {
     let table: Table = file::read(&draft.file()).expect("it was accepted");
-    Judge::of_accepted(&table).sums(i, t).0
+    Judge::of_accepted(&table).parts(i, t).request
 }

@@ -366,8 +366,8 @@ fn border_of_the_two_delays() {
     ] {
         let table = with(h);
         let judge = Judge::new(&table).expect("the table is accepted");
-        let (of_requests, sums) = judge.sums(0, bound);
-        assert_eq!((of_requests, &sums[..4]), (request, &[200, 200, 260, 300][..]));
+        let parts = judge.parts(0, bound);
+        assert_eq!((parts.request, &parts.sums[..4]), (request, &[200, 200, 260, 300][..]));
         assert_eq!(judge.one(1, 0), Ok(Answer { verdict: Verdict::Holds { bound, by }, rounds: 2 }));
     }
 }

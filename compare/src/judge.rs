@@ -91,7 +91,7 @@ impl<'a> Judge<'a> {
     }
 
     /// F(t) of task `i`, and the delay that is the smaller there.
-    pub(crate) fn response(&self, i: usize, t: u64) -> (u128, By) {
+    fn response(&self, i: usize, t: u64) -> (u128, By) {
         let own = &self.tasks[i];
         let mut execution = u128::from(own.c);
         let mut requests = u128::from(own.h);
