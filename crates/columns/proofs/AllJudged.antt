@@ -1,17 +1,15 @@
 -- Judging lent columns that hold a table's figures is judging all of the table. Assumes nothing.
-use mathlib.Core.Path.{_≡_, refl, sym, ap, _∙_}
+use mathlib.Core.Path.{_≡_, refl, ap, _∙_}
 use mathlib.Core.Bool.{Bool, true, false, cond}
 use mathlib.Core.List.{List, map}
-use Prim.Native.Nat.{ℕ, _+_, _-_, _≤_, _<_}
+use Prim.Native.Nat.{ℕ, _+_, _-_, _≤_}
 use native.Mathlib.Omega.{arith}
 use lib.Dec.{ltb}
 use Rattle.laws.specs.Idioms.{entry, filled, upTo}
 use Rattle.laws.proofs.Members.{member-upTo, map-same}
 use Rattle.rules.specs.declared.Table.{Table}
-use Rattle.rules.specs.declared.Refusal.{Refusal}
 use Rattle.rules.specs.declared.Answer.{Answer}
 use Rattle.rules.specs.declared.AllJudged as declared
-use Rattle.rules.specs.Tasks.{latest, taskOf}
 use Rattle.rules.specs.Judgement.{misses, judge}
 use Rattle.rules.specs.Chain.{isAccepted, first, _orElse_}
 use Rattle.rules.specs.Refusals.{checkTable, checkJudged, lateStart, highStart, checkAll}
@@ -23,7 +21,7 @@ use Rattle.facts.proofs.Chain.{both-accepted}
 use Rattle.climb.specs.declared.Climbed.{Climbed}
 use Rattle.unjudged.specs.Unjudged.{firstAfter}
 use Rattle.rounds.specs.Lent.{Lent, climbedAt, firstLowered, answeredOr, judgedLent}
-use Rattle.columns.specs.Numbered.{climbedFor, pricedOf}
+use Rattle.columns.specs.Numbered.{climbedFor}
 use Rattle.columns.specs.Held.{Held}
 use Rattle.columns.proofs.Holding.{of-climbed, tasks-are}
 

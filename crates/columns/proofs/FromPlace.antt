@@ -48,6 +48,6 @@ module _ {f : Task → ℕ} {l : List Task} {a e : ℕ} {spans costs : List ℕ}
       let back : (i : ℕ) → a ≤ i → a + (i - a) ≡ i = λ i low. omega arith in
       let task : (i : ℕ) → a ≤ i → i < e → SoundTask cores (getD l (i - a) noTask) = λ i low h. sound _ (member-at l (i - a) noTask (omega arith)) in
       record {
-        low = record { rises = omega arith; few = few; cost = λ i low h. rw (rw (back i low) at (x .each (i - a) (omega arith))) (high _ (task i low h)) };
+        bounded = record { rises = omega arith; few = few; cost = λ i low h. rw (rw (back i low) at (x .each (i - a) (omega arith))) (high _ (task i low h)) };
         period = λ i low h. rw (rw (back i low) at (p .each (i - a) (omega arith))) (task i low h .T-in);
       }

@@ -1,37 +1,36 @@
 -- Lent columns that hold the figures of a sound table: they can be judged, and judging them is judging the table. Assumes nothing.
 use mathlib.Core.Path.{_≡_, refl, sym, ap, _∙_}
 use mathlib.Core.Bool.{Bool, true, false, cond}
-use mathlib.Core.List.{List, [], _∷_, _++_, map, map-append}
+use mathlib.Core.List.{List, [], _∷_, map, map-append}
 use Prim.Native.Nat.{ℕ, zero, suc, _+_, _-_, _≤_, _<_}
 use native.Mathlib.Nat.{le-refl}
 use native.Mathlib.Numerals.{add-one}
 use native.Mathlib.Omega.{arith}
-use lib.Dec.{eqb}
 use lib.ListN.{length, length-map, take, getD, List·getD-map}
 use lib.Seq.{take-suc}
-use Rattle.laws.specs.Idioms.{entry, filled, upTo, those, Within}
+use Rattle.laws.specs.Idioms.{entry, upTo, those, Within}
 use Rattle.laws.proofs.Sums.{those-append}
 use Rattle.laws.proofs.Runs.{length-map-from}
 use Rattle.laws.proofs.Filled.{filled-length}
 use Rattle.laws.proofs.Places.{getD-within, place-of}
 use Rattle.rules.specs.declared.Task.{Task}
 use Rattle.rules.specs.declared.Table.{Table}
-use Rattle.rules.specs.Tasks.{C, T, H, latest, noTask, tasksOf, taskOf, coreOf, isOn, tasksOn, higher}
+use Rattle.rules.specs.Tasks.{C, H, latest, noTask, coreOf, isOn, tasksOn, higher}
 use Rattle.facts.specs.Sound.{Sound, SoundTask}
 use Rattle.facts.proofs.SoundTasks.{tasks-there}
 use Rattle.prices.specs.Costs.{costsOf, noCosts, allCosts}
-use Rattle.groups.specs.Grouped.{placesOn, Ordered}
-use Rattle.groups.specs.Columns.{PerTask, InOrder, Columns}
+use Rattle.groups.specs.Grouped.{placesOn}
+use Rattle.groups.specs.Columns.{InOrder}
 use Rattle.groups.proofs.PlacesOn.{places-none, places-next, places-few, places-first, own-within, own-place}
 use Rattle.floors.specs.Floors.{twiceOn, othersWith}
 use Rattle.terms.specs.Terms.{termsOf}
 use Rattle.climb.specs.Run.{Ready, climbed}
 use Rattle.rounds.specs.declared.Priced.{Priced}
-use Rattle.rounds.specs.Lent.{Lent, ownWith, placeAt, ownAt, termsAt, climbedAt, Judgeable}
-use Rattle.columns.specs.Numbered.{climbedFor, pricedOf}
+use Rattle.rounds.specs.Lent.{Lent, ownWith, placeAt, termsAt, Judgeable}
+use Rattle.columns.specs.Numbered.{climbedFor}
 use Rattle.columns.specs.Held.{Held}
 use Rattle.columns.proofs.FromPlace.{From}
-use Rattle.columns.proofs.Stands.{GroupAt, Grouped, Above, lots-for, termsFor, climbed-same, ready-for}
+use Rattle.columns.proofs.Stands.{Grouped, Above, lots-for, termsFor, climbed-same, ready-for}
 
 -- the task in place i
 abbrev taskIn : Table → ℕ → Task

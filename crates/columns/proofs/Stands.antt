@@ -58,7 +58,7 @@ module _ (t : Table) (s : Sound t) {begins spans costs asks : List ℕ} (g : Gro
   slots-on q h = let j = g q h in slots-are (j .periods) (j .requests) (j .next) (j .few) (sound-on (q + 1)) (λ i sound. sound .H-high)
 
   pub lots-for : Lots (t .cores) begins asks
-  lots-for = record { few = s .cores-in .high; each = λ q h. slots-on q h .low }
+  lots-for = record { few = s .cores-in .high; each = λ q h. slots-on q h .bounded }
 
 -- the higher tasks of task number k stand from the first of its core to its own place
 pub record Above (t : Table) (k first place : ℕ) (spans costs asks : List ℕ) : Type 0 where

@@ -119,7 +119,17 @@ pub fn judge_task(table: Table, k: u8, start: u64) -> Climbed
         &mut asks,
     );
     let i = (k as usize) - 1;
-    single::judge_at(board, i, start, &core, &latest, &from, &spans, &costs, &asks)
+    single::judge_at(
+        board,
+        i,
+        start,
+        &core,
+        &latest,
+        &from,
+        &spans,
+        &costs,
+        &asks,
+    )
 }
 
 // Every task of an accepted table: 13 with the first late start, 14 with the first whose start F lowers, or the answers.

@@ -1,7 +1,7 @@
 -- Sums over places, and a loop that makes one. Assumes nothing.
 use mathlib.Core.Path.{_≡_, refl, _∙_}
 use mathlib.Core.List.{List}
-use Prim.Native.Nat.{ℕ, zero, suc, _+_, _-_, _*_, _^_, _≤_, _<_, zero-le}
+use Prim.Native.Nat.{ℕ, zero, suc, _+_, _-_, _*_, _≤_, _<_, zero-le}
 use native.Mathlib.Nat.{mul-le-mul, sub-self, le-refl, add-zero, add-suc}
 use native.Mathlib.Numerals.{add-one}
 use native.Mathlib.Omega.{arith}
@@ -65,7 +65,7 @@ module _ {highest : ℕ} {f : ℕ → ℕ} {a : ℕ} where
 module _ {highest a e t i count : ℕ} {periods costs : List ℕ} (slots : Slots highest a e periods costs) (low : a ≤ i) (here : i < e)
     (counted : Counted t (getD periods i 0) count) where
   small : (jobs : ℕ) → jobs ≤ 10000 → jobs * getD costs i 0 ≤ 10000 * highest
-  small jobs few = mul-le-mul few (slots .low .cost i low here)
+  small jobs few = mul-le-mul few (slots .bounded .cost i low here)
 
   pub count-some : 1 ≤ t → 1 ≤ count
   count-some some = omega (arith, counted .is, ceil-pos t (getD periods i 0) some (omega (arith, slots .period i low here .low)))

@@ -41,5 +41,5 @@ pub record Bounded (highest a e : ℕ) (costs : List ℕ) : Type 0 where
 
 -- and beside them periods of accepted tasks
 pub record Slots (highest a e : ℕ) (periods costs : List ℕ) : Type 0 where
-  pub low : Bounded highest a e costs
+  pub bounded : Bounded highest a e costs
   pub period : (i : ℕ) → a ≤ i → i < e → Within (10 ^ 8) (10 ^ 12) (getD periods i 0)

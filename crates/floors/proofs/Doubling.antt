@@ -1,8 +1,8 @@
 -- Two jobs of each core's tasks, as a loop finds them. Assumes nothing.
-use mathlib.Core.Path.{_≡_, refl}
+use mathlib.Core.Path.{_≡_}
 use mathlib.Core.List.{List}
-use Prim.Native.Nat.{ℕ, _+_, _*_, _≤_, _<_, _^_}
-use native.Mathlib.Nat.{not-suc-le-zero, mul-le-mul-right}
+use Prim.Native.Nat.{ℕ, _+_, _*_, _<_, _^_}
+use native.Mathlib.Nat.{not-suc-le-zero}
 use native.Mathlib.Decide.{ℕ-discrete}
 use native.Mathlib.Omega.{arith}
 use lib.ListN.{length, length-set, getD, set}

@@ -9,7 +9,6 @@ use Rattle.rules.specs.declared.Picos.{Picos}
 use Rattle.rules.specs.Units.{ps}
 use Rattle.counts.specs.Counts.{sumBelow, sumFrom, twiceOf, Bounded}
 use Rattle.counts.proofs.Sums.{below-next, below-mono, below-same, below-plus, below-high, below-fewer}
-use Rattle.floors.specs.declared.Others.{Others}
 use Rattle.floors.specs.Floors.{weighedAt, weighed, twiceOn, Doubled, FitsAt, othersWith}
 
 -- two jobs of each task of a core are at most so many requests

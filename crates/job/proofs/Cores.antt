@@ -1,7 +1,7 @@
 -- Job as a loop over the cores adds it up, from its floor. Assumes nothing.
-use mathlib.Core.Path.{_≡_, refl}
+use mathlib.Core.Path.{_≡_}
 use mathlib.Core.List.{List}
-use Prim.Native.Nat.{ℕ, _+_, _*_, _/_, _≤_, _<_, _^_}
+use Prim.Native.Nat.{ℕ, _+_, _*_, _/_, _≤_, _^_}
 use native.Mathlib.Omega.{arith}
 use lib.ListN.{getD}
 use Rattle.rules.specs.Units.{ps}
@@ -28,7 +28,7 @@ module _ {others : Others} {begins periods asks : List ℕ} (g : Groups others b
       → Charged (getD begins q 0) (getD begins (q + 1) 0) periods asks (getD (others .weight) q (ps 0) .0) t r → Added others begins periods asks t (q + 1) (s + r)
   unfolding weighed laterOn
   added-next {q} so here more =
-      let low = here .slots .low in
+      let low = here .slots .bounded in
       record {
         is = rw (below-next (weighedAt (others .weight) (laterOn begins periods asks t)) q) (omega (arith, so .is, more .is));
         high = omega (arith, so .high, more .high, low .rises);

@@ -1,11 +1,10 @@
 -- Job is its floor and what comes later; at time 0 it is half its floor. Assumes nothing.
-use mathlib.Core.Path.{_≡_, refl, ap, _∙_}
+use mathlib.Core.Path.{_≡_, ap, _∙_}
 use mathlib.Core.List.{List}
-use Prim.Native.Nat.{ℕ, _+_, _-_, _*_, _/_, _≤_, _<_, _^_}
+use Prim.Native.Nat.{ℕ, _+_, _*_, _≤_, _^_}
 use native.Mathlib.Omega.{arith}
 use lib.ListN.{getD}
 use Rattle.rules.specs.declared.Picos.{Picos}
-use Rattle.rules.specs.Units.{ps}
 use Rattle.counts.specs.Counts.{sumFrom, laterOf}
 use Rattle.counts.proofs.Sums.{asked-later, asked-first}
 use Rattle.floors.specs.declared.Others.{Others}
@@ -25,7 +24,7 @@ module _ {others : Others} {begins periods asks : List ℕ} (g : Groups others b
   unfolding twiceOn
   floor-high =
       let each = weighed-high (others .cores) (others .weight) (twiceOn begins asks) (32 * (2 * 10 ^ 6)) (2 * 10 ^ 7)
-          (λ q h. (twice-high (g .each q h .slots .low), g .each q h .weight-high)) in
+      (λ q h. (twice-high (g .each q h .slots .bounded), g .each q h .weight-high)) in
       omega (arith, floor, each, g .few)
 
   pub job-later : (t : ℕ) → 1 ≤ t → jobBy others begins periods asks t ≡ others .floor .0 + weighed (others .cores) (others .weight) (laterOn begins periods asks t)

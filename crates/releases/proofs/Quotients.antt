@@ -1,10 +1,10 @@
 -- A count of periods is small, a guess of it is tested, and no inverse is too large. Assumes nothing.
 use mathlib.Core.Path.{_≡_}
-use mathlib.Core.List.{List, [], _∷_}
-use Prim.Native.Nat.{ℕ, zero, suc, _+_, _-_, _*_, _/_, _%_, _^_, _≤_, _<_, zero-le}
+use mathlib.Core.List.{List}
+use Prim.Native.Nat.{ℕ, _+_, _-_, _*_, _/_, _%_, _^_, _≤_, _<_, zero-le}
 use native.Mathlib.Nat.{le-div-iff-mul-le, div-lt-iff-lt-mul, mul-le-mul}
 use native.Mathlib.Omega.{arith}
-use lib.ListN.{getD, set, replicate}
+use lib.ListN.{set, replicate}
 use Rattle.laws.specs.Idioms.{_/↑_}
 use Rattle.laws.proofs.Fill.{set-keeps}
 use Rattle.laws.proofs.Filled.{only-default}

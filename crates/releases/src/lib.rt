@@ -1,5 +1,4 @@
 // How often a task is released in a time: how many periods begin in it.
-ghost use mathlib.Core.Path.{_≡_};
 ghost use Prim.Native.Nat.{_^_, _≤_};
 ghost use Rattle.laws.specs.Idioms.{Within};
 ghost use Rattle.releases.specs.Releases.{Counted, Small};

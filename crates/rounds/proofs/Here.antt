@@ -4,7 +4,6 @@ use mathlib.Core.List.{List}
 use Prim.Native.Nat.{ℕ, _+_, _-_, _≤_, _<_, zero-le}
 use native.Mathlib.Omega.{arith}
 use lib.ListN.{getD}
-use Rattle.laws.specs.Idioms.{entry}
 use Rattle.laws.proofs.Places.{getD-within}
 use Rattle.prices.specs.declared.CoreCosts.{CoreCosts}
 use Rattle.prices.specs.Costs.{noCosts}

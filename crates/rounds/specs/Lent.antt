@@ -1,7 +1,7 @@
 -- The tasks of lent columns, and what judging them gives. Places are counted from 0, numbers from 1. Assumes nothing.
 use Prim.Native.Nat.{ℕ, _+_, _-_, _≤_, _<_}
 use mathlib.Core.Path.{_≡_}
-use mathlib.Core.Bool.{Bool, cond}
+use mathlib.Core.Bool.{cond}
 use mathlib.Core.List.{List, map}
 use lib.ListN.{length, getD}
 use Rattle.laws.specs.Idioms.{Within, entry, upTo, filled}

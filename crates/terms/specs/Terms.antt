@@ -1,6 +1,5 @@
 -- The response equation of one task from plain lists: what the arrays that the rounds borrow stand for. Assumes nothing.
 use Prim.Native.Nat.{ℕ, _+_, _*_, _≤_, _^_, min}
-use mathlib.Core.Path.{_≡_}
 use mathlib.Core.Bool.{cond}
 use mathlib.Core.List.{List}
 use lib.Dec.{leb}

@@ -1,5 +1,4 @@
 -- Every task. Assumes nothing.
-use borrow.Author.Needs.{needs}
 use mathlib.Core.Path.{refl, _∙_}
 use Rattle.facts.proofs.Accepted.{sound}
 use Rattle.columns.proofs.Holding.{of-judgeable}

@@ -2,7 +2,7 @@
 use borrow.Author.Needs.{needs}
 use Prim.Native.Nat.{_≤_, _-_}
 use Rattle.releases.specs.Releases.{Small}
-use Rattle.releases.proofs.Quotients.{small-none, small-next}
+use Rattle.releases.proofs.Quotients.{small-next}
 use Rattle.releases.proofs.inverses.Statement.{statement}
 use Rattle.releases.proofs.inverses.Tie as tie
 
