@@ -7,10 +7,9 @@ use compare_model::file;
 use compare_model::gen::{self, Draft, Rng};
 use compare_model::judge::{Judge, Verdict};
 use compare_model::stops::Parts;
-use compare_model::table::{Table, Task, H_HIGHEST, T_LOWEST};
+use compare_model::table::{Table, Task, H_HIGHEST, TASKS, T_LOWEST};
 
-use crate::cases::calls;
-use crate::comparer::{Comparer, Difference};
+use crate::comparer::{Comparer, Difference, Reaches};
 
 type Outcome = Result<(), Difference>;
 
@@ -68,7 +67,7 @@ fn around(on: &mut Comparer, met: &mut Met, draft: &Draft, i: usize) -> Outcome 
         let Some(h) = requests_for(draft, i, request, sum) else { continue };
         for h in [h.saturating_sub(1), h, h + 1] {
             let changed = with_requests(draft, i, h.min(H_HIGHEST));
-            calls(on, &changed.file())?;
+            on.judge(&changed.file(), &[], Reaches::all(TASKS))?;
             if request_of(&changed, i, t) == sum {
                 match at {
                     0 => met.floor += 1,

@@ -1,11 +1,11 @@
 // carry OLDER NEWER: the newer table's listing, judged from the older one's bounds where that is sound. A line on standard error says what that
 // spared, or what stood against it.
 use bytes::front;
+use changes::Change;
 use console::Got;
 use console::note;
 use console::note_number;
 use console::part;
-use order::Change;
 use rules::Answer;
 use rules::Picos;
 use rules::Refusal;

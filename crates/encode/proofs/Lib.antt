@@ -1,3 +1,3 @@
 -- What the proofs of the functions stand on.
---     Stores   records, trailer and body as runs of stores
+--     Stores   records and body as runs of stores
 pub mod Stores

@@ -1,4 +1,4 @@
--- The figures of a record, the numbers of a trailer and the parts of a body, each stored after the one before. Assumes nothing.
+-- The figures of a record and the parts of a body, each stored after the one before. Assumes nothing.
 use mathlib.Core.Path.{_≡_}
 use mathlib.Core.List.{List, _++_, map}
 use Prim.Native.Nat.{ℕ, _+_, _≤_}
@@ -8,7 +8,7 @@ use lib.Seq.{sets, take-all}
 use Rattle.rules.specs.declared.Task.{Task}
 use Rattle.rules.specs.declared.Table.{Table}
 use Rattle.rules.specs.Tasks.{C, T, D, H, tasksOf}
-use Rattle.rules.specs.File.{setsAt, recordsAt, recordSize, fileLength, recordBytes, sumOf, runningSum, trailer, body}
+use Rattle.rules.specs.File.{setsAt, recordsAt, recordSize, fileLength, recordBytes, body}
 use Rattle.laws.specs.Idioms.{joined, bytesOf}
 use Rattle.laws.proofs.Bytes.{bytes-length}
 use Rattle.laws.proofs.Runs.{sets-after, joined-length, joined-take}
@@ -32,14 +32,6 @@ module _ (form : ℕ) (i : Task) where
       let second = sets-after b (bytesOf 8 (T i)) out at (at + 9) (simp (length-append, bytes-length)) in
       let third = sets-after c (bytesOf 8 (D i)) out at (at + 17) (simp (length-append, bytes-length)) in
       rw (first, second, third) (sets-after (c ++ bytesOf 8 (D i)) (bytesOf 4 (H i)) out at (at + 25) (simp (length-append, bytes-length)))
-
-pub trailer-stores : (s out : List ℕ) (at : ℕ)
-    → sets (sets (sets out at (bytesOf 4 (length s))) (at + 4) (bytesOf 4 (sumOf s))) (at + 8) (bytesOf 4 (runningSum s)) ≡ sets out at (trailer s)
-unfolding trailer
-trailer-stores s out at =
-    let a = bytesOf 4 (length s) in
-    rw (sets-after a (bytesOf 4 (sumOf s)) out at (at + 4) (simp bytes-length))
-    (sets-after (a ++ bytesOf 4 (sumOf s)) (bytesOf 4 (runningSum s)) out at (at + 8) (simp (length-append, bytes-length)))
 
 -- a table's arrays, and counts that they have room for
 module _ (t : Table) (figures : length (t .timing) ≡ 15) (places : length (t .sets) ≡ 8) (cores : t .cores ≤ 8) where

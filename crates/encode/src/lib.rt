@@ -1,4 +1,4 @@
-// A table as the bytes of its file, into a lent buffer that has room for them: the body, and the trailer after it. Where the parts stand is `places`'.
+// A table as the bytes of its file before their trailer, into a lent buffer that has room for them. Where the parts stand is `places`'.
 ghost use mathlib.Core.Path.{_≡_};
 ghost use Prim.Native.Nat.{_+_, _*_, _≤_};
 ghost use mathlib.Core.List.{map};
@@ -6,7 +6,7 @@ ghost use lib.ListN.{length, take};
 ghost use lib.Seq.{sets};
 ghost use Rattle.laws.specs.Idioms.{joined, bytesOf};
 ghost use Rattle.rules.specs.Tasks.{tasksOf};
-ghost use Rattle.rules.specs.File.{recordsAt, recordAt, recordBytes, trailer, body};
+ghost use Rattle.rules.specs.File.{recordsAt, recordAt, recordBytes, body};
 ghost use Rattle.encode.specs.Counts.{counts};
 use rules::Table;
 use rules::Task;
@@ -86,16 +86,4 @@ pub fn put_body(out: &mut [u8], t: Table)
         places::size(t.cores),
     );
     put_tasks(out, t);
-}
-
-// The trailer of the e bytes before it.
-pub fn put_trailer(out: &mut [u8], e: usize)
-    requires { ⌜ e ≤ 65536 ⌝ }
-    requires { ⌜ e + 12 ≤ length (now out) ⌝ }
-    ensures { λ _. ⌜ now (out .exit) ≡ sets (now (out .entry)) e (trailer (take e (now (out .entry)))) ⌝ }
-{
-    let total = sums::sums(&out[..e]);
-    bytes::put(out, e, e as u64, 4);
-    bytes::put(out, e + 4, total.sum, 4);
-    bytes::put(out, e + 8, total.running, 4);
 }

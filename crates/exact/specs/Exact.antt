@@ -20,8 +20,8 @@ use Rattle.rules.specs.Refusals.{checkTiming, checkBus, boardRefusal, checkBoar
 use Rattle.rules.specs.File.{checkWhole}
 use Rattle.rules.specs.Operations.{checkFile, reading, checkView, viewing, judgeOne, judgeAll}
 use Rattle.rules.specs.Listing.{refusedLine, tableText, listing, receipt}
-use Rattle.order.specs.declared.Change.{Change}
-use Rattle.order.specs.Difference as Difference
+use Rattle.changes.specs.declared.Change.{Change}
+use Rattle.changes.specs.Difference as Difference
 use Rattle.judge.specs.Starts.{inPicos}
 use Rattle.rejudge.specs.Carried.{Carried}
 use Rattle.writer.specs.Answers.{Wrote}

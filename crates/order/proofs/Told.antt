@@ -8,8 +8,8 @@ use Rattle.rules.specs.declared.Task.{Task}
 use Rattle.rules.specs.declared.Table.{Table}
 use Rattle.laws.specs.Idioms.{every, from, upTo, entry}
 use Rattle.rules.specs.Order.{sameBoard, worseTask, worsens}
-use Rattle.order.specs.declared.Change.{Change}
-use Rattle.order.specs.Difference.{isNone, _orElse_, unless, firstFrom, firstOf, unlike, countsDifference, boardDifference, taskDifference, tasksDifference, difference}
+use Rattle.changes.specs.declared.Change.{Change}
+use Rattle.changes.specs.Difference.{isNone, _orElse_, unless, firstFrom, firstOf, unlike, countsDifference, boardDifference, taskDifference, tasksDifference, difference}
 use Rattle.order.specs.Agrees.{Agrees}
 
 -- a figure, and one change or another

@@ -3,7 +3,7 @@ use mathlib.Core.Path.{_≡_}
 use lib.Dec.{eqb}
 use Rattle.rules.specs.declared.Table.{Table}
 use Rattle.rules.specs.Order.{worsens}
-use Rattle.order.specs.Difference.{difference}
+use Rattle.changes.specs.Difference.{difference}
 
 abbrev pub Agrees : Type 0
 Agrees = (older newer : Table) → eqb (difference older newer .what) 0 ≡ worsens older newer

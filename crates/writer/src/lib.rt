@@ -1,11 +1,11 @@
-// Table files: writing. What is refused; what is written is `encode`'s.
+// Table files: writing. What is refused; what is written is that of `encode` and `seal`.
 ghost use mathlib.Core.Path.{_≡_};
 ghost use Rattle.writer.specs.Answers.{wroteNothing, Wrote};
 use encode::put_body;
-use encode::put_trailer;
 use rules::Refusal;
 use rules::Table;
 use rules::Written;
+use seal::put_trailer;
 
 // What a refused writing answers (RULES 9.2).
 fn wrote_nothing(refusal: Refusal) -> Written

@@ -3,7 +3,7 @@ use borrow.Author.Needs.{needs}
 use mathlib.Core.Path.{_≡_, sym, _∙_}
 use lib.ListN.{length}
 use Rattle.laws.proofs.Runs.{unmapped}
-use Rattle.order.specs.Difference.{boardDifference}
+use Rattle.changes.specs.Difference.{boardDifference}
 use Rattle.order.proofs.board_difference.Statement.{statement}
 use Rattle.order.proofs.board_difference.Tie as tie
 

@@ -1,6 +1,6 @@
 -- The counts, one after the other. Assumes nothing.
 use borrow.Author.Needs.{needs}
-use Rattle.order.specs.Difference.{countsDifference}
+use Rattle.changes.specs.Difference.{countsDifference}
 use Rattle.order.proofs.counts_difference.Statement.{statement}
 use Rattle.order.proofs.counts_difference.Tie as tie
 

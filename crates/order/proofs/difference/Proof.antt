@@ -1,6 +1,6 @@
 -- The boards of two tables compared, then their tasks. Assumes nothing.
 use borrow.Author.Needs.{needs}
-use Rattle.order.specs.Difference.{difference}
+use Rattle.changes.specs.Difference.{difference}
 use Rattle.order.proofs.difference.Statement.{statement}
 use Rattle.order.proofs.difference.Tie as tie
 

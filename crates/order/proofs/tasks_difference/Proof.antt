@@ -7,9 +7,9 @@ use lib.ListN.{length, getD, List·getD-eq-default}
 use Rattle.rules.specs.declared.Table.{Table}
 use Rattle.rules.specs.Tasks.{noTask, taskOf}
 use Rattle.laws.proofs.Runs.{unmapped}
-use Rattle.order.specs.declared.Change.{Change}
-use Rattle.order.specs.Difference.{none, _orElse_, taskDifference, tasksDifference}
-use Rattle.order.proofs.First.{Left, left-all, left-hit, left-next, left-clear, left-none}
+use Rattle.changes.specs.declared.Change.{Change}
+use Rattle.changes.specs.Difference.{none, _orElse_, taskDifference, tasksDifference}
+use Rattle.changes.proofs.First.{Left, left-all, left-hit, left-next, left-clear, left-none}
 use Rattle.order.proofs.tasks_difference.Statement.{statement}
 use Rattle.order.proofs.tasks_difference.Tie as tie
 

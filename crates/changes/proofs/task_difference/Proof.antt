@@ -1,9 +1,9 @@
 -- A task's figures, one after the other. Assumes nothing.
 use borrow.Author.Needs.{needs}
 use borrow.Author.Tests.{eq-eqb, ne-eqb, le-leb, lt-leb}
-use Rattle.order.specs.Difference.{_orElse_, taskDifference}
-use Rattle.order.proofs.task_difference.Statement.{statement}
-use Rattle.order.proofs.task_difference.Tie as tie
+use Rattle.changes.specs.Difference.{_orElse_, taskDifference}
+use Rattle.changes.proofs.task_difference.Statement.{statement}
+use Rattle.changes.proofs.task_difference.Tie as tie
 
 returns : tie.Need-returns
 unfolding taskDifference _orElse_

@@ -1,8 +1,8 @@
 -- A figure that must stay as it was. Assumes nothing.
 use borrow.Author.Needs.{needs}
 use borrow.Author.Tests.{eq-eqb, ne-eqb}
-use Rattle.order.proofs.unequal.Statement.{statement}
-use Rattle.order.proofs.unequal.Tie as tie
+use Rattle.changes.proofs.unequal.Statement.{statement}
+use Rattle.changes.proofs.unequal.Tie as tie
 
 returns : tie.Need-returns
 returns c = rw (c .nothing .ensures, eq-eqb _ _ (c .before .if1 .taken))

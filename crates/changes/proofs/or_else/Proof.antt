@@ -1,8 +1,8 @@
 -- One change or another. Assumes nothing.
 use borrow.Author.Tests.{eq-eqb, ne-eqb}
-use Rattle.order.specs.Difference.{_orElse_}
-use Rattle.order.proofs.or_else.Statement.{statement}
-use Rattle.order.proofs.or_else.Tie as tie
+use Rattle.changes.specs.Difference.{_orElse_}
+use Rattle.changes.proofs.or_else.Statement.{statement}
+use Rattle.changes.proofs.or_else.Tie as tie
 
 returns : tie.Need-returns
 unfolding _orElse_

@@ -6,11 +6,11 @@ use Prim.Native.Nat.{ℕ, _+_, _-_, _≤_, _<_}
 use native.Mathlib.Omega.{arith}
 use lib.ListN.{length, getD, List·getD-eq-default}
 use Rattle.laws.specs.Idioms.{entry}
-use Rattle.order.specs.declared.Change.{Change}
-use Rattle.order.specs.Difference.{none, unequal, unlike}
-use Rattle.order.proofs.First.{Left, left-all, left-hit, left-next, left-clear, left-none}
-use Rattle.order.proofs.unlike.Statement.{statement}
-use Rattle.order.proofs.unlike.Tie as tie
+use Rattle.changes.specs.declared.Change.{Change}
+use Rattle.changes.specs.Difference.{none, unequal, unlike}
+use Rattle.changes.proofs.First.{Left, left-all, left-hit, left-next, left-clear, left-none}
+use Rattle.changes.proofs.unlike.Statement.{statement}
+use Rattle.changes.proofs.unlike.Tie as tie
 
 abbrev at : ℕ → List ℕ → List ℕ → ℕ → Change
 at what a b k = unequal what k (entry 0 a k) (entry 0 b k)

@@ -12,7 +12,7 @@ use Rattle.rules.specs.declared.Task.{Task}
 use Rattle.rules.specs.declared.Table.{Table}
 use Rattle.laws.specs.Idioms.{entry}
 use Rattle.rules.specs.Tasks.{C, T, D, H, taskOf}
-use Rattle.order.specs.declared.Change.{Change}
+use Rattle.changes.specs.declared.Change.{Change}
 
 -- nothing is at fault; figure number `what` is, at a place
 abbrev pub none : Change

@@ -4,8 +4,8 @@ use Prim.Native.Nat.{ℕ, zero, suc, _+_, _-_, _≤_, _<_}
 use native.Mathlib.Nat.{sub-zero}
 use native.Mathlib.Omega.{arith}
 use borrow.Author.Tests.{eq-eqb, ne-eqb}
-use Rattle.order.specs.declared.Change.{Change}
-use Rattle.order.specs.Difference.{none, _orElse_, firstFrom, firstOf}
+use Rattle.changes.specs.declared.Change.{Change}
+use Rattle.changes.specs.Difference.{none, _orElse_, firstFrom, firstOf}
 
 abbrev pub Left : (ℕ → Change) → ℕ → ℕ → Type 0
 Left d n i = firstOf d n ≡ firstFrom d (i + 1) (n - i)

@@ -4,9 +4,9 @@ use native.Mathlib.Omega.{arith}
 use borrow.Author.Needs.{needs}
 use lib.ListN.{length, take}
 use lib.Seq.{length-take-le}
-use Rattle.encode.proofs.Stores.{trailer-stores}
-use Rattle.encode.proofs.put_trailer.Statement.{statement}
-use Rattle.encode.proofs.put_trailer.Tie as tie
+use Rattle.seal.proofs.Stores.{trailer-stores}
+use Rattle.seal.proofs.put_trailer.Statement.{statement}
+use Rattle.seal.proofs.put_trailer.Tie as tie
 
 returns : tie.Need-returns
 returns c =
