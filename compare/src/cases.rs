@@ -11,6 +11,7 @@ use crate::border_cases;
 use crate::bus_cases;
 use crate::comparer::{Comparer, Difference, Reaches};
 use crate::pairs;
+use crate::run_cases;
 
 type Outcome = Result<(), Difference>;
 
@@ -42,6 +43,7 @@ pub fn all(on: &mut Comparer, seed: u64, count: u64) -> Outcome {
     bus_cases::all(on, &mut rng)?;
     wide_totals(on, &mut rng)?;
     border_cases::all(on, &mut rng)?;
+    run_cases::all(on, &mut rng)?;
     pairs::reasons(on)?;
     for case in 0..count {
         random(on, &mut rng, case)?;

@@ -22,8 +22,9 @@ pub const RANGES: [(u16, u16); FIGURES] = [
     (0, 65535), // Ncap, 65535 where unknown
 ];
 
-/// The place of BL among the figures, from 0.
+/// The places of BL and Ncap among the figures, from 0.
 pub const BL: usize = 5;
+pub const NCAP: usize = 14;
 
 /// The DDR3-1333 row, Ncap unknown.
 pub const DDR3_1333: [u16; FIGURES] = [1500, 9, 9, 9, 7, 8, 5, 10, 4, 20, 24, 5, 2, 1024, 65535];
@@ -112,9 +113,10 @@ impl Timing {
         self.trp + self.trcd + self.hit()
     }
 
-    /// The cycles of `m` row hits in a row.
+    /// The cycles of `m` row hits in a row: the last write is recovered from, if there is one.
     pub fn run(&self, m: i64) -> i64 {
-        (m + 1) / 2 * self.write_to_read() + m / 2 * self.cl + (self.twr - self.twtr)
+        let recovery = if m > 0 { self.twr - self.twtr } else { 0 };
+        (m + 1) / 2 * self.write_to_read() + m / 2 * self.cl + recovery
     }
 
     /// How many row hits can overtake. Unknown is above every Ncols/BL, so the smaller is right for it too.

@@ -3,14 +3,12 @@
 use crate::answers;
 use crate::carry;
 use crate::delay::Delays;
-use crate::dram::{Timing, DDR3_1333};
+use crate::dram::{Timing, DDR3_1333, NCAP};
 use crate::file::{self, LONGEST, LONGEST_BY_HEADER, RECORD, SETS_AT, SHORTEST};
 use crate::judge::{Answer, By, Judge, Verdict};
 use crate::listing::listing;
 use crate::refusal::Refusal;
 use crate::table::{Table, Task, CORES, FIGURES};
-
-const NCAP: usize = 14;
 
 fn table(partitions: u8, sets: &[u16], tasks: &[Task]) -> Table {
     let mut table =
@@ -74,7 +72,7 @@ fn delay_figures() {
     let timing = Timing::new(&DDR3_1333);
     let cycles = [timing.pre(), timing.act(), timing.rw(), timing.hit(), timing.conf()];
     assert_eq!(cycles.map(|c| c * timing.tck), [1_500, 12_000, 24_000, 31_500, 58_500]);
-    assert_eq!([0, 1, 12, 128].map(|m| timing.run(m)), [5, 21, 155, 1_605]);
+    assert_eq!([0, 1, 12, 128].map(|m| timing.run(m)), [0, 21, 155, 1_605]);
     assert_eq!(timing.window(), 128);
     assert_eq!(Timing { ncap: 12, ..timing }.window(), 12);
 }
@@ -95,6 +93,18 @@ fn request_delays() {
     assert_eq!([1, 2].map(|core| request_delay(&sharing, core)), [318_000, 318_000]);
     let three = with_ncap(table(2, &[1, 1, 2], &one), 12);
     assert_eq!([1, 3].map(|core| request_delay(&three, core)), [681_000, 75_000]);
+}
+
+/// RULES 11.13: without reordering there is no run, and tRP + tRCD stay. Of one row hit there is one: 21 cycles more, and 16 for the core apart.
+#[test]
+fn no_reordering() {
+    let one = [task(1, 1, 100_000_000, 0)];
+    let sharing = |ncap| with_ncap(table(1, &[1, 1], &one), ncap);
+    assert_eq!([1, 2].map(|core| request_delay(&sharing(0), core)), [85_500, 85_500]);
+    assert_eq!(request_delay(&sharing(1), 1), 117_000);
+    let three = |ncap| with_ncap(table(2, &[1, 1, 2], &one), ncap);
+    assert_eq!([1, 2, 3].map(|core| request_delay(&three(0), core)), [160_500, 160_500, 75_000]);
+    assert_eq!([1, 3].map(|core| request_delay(&three(1), core)), [216_000, 75_000]);
 }
 
 const LISTING: &str = "task core verdict bound by rounds\n\

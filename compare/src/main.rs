@@ -13,6 +13,7 @@ mod comparer;
 mod ffi;
 mod library;
 mod pairs;
+mod run_cases;
 mod served;
 
 use std::env;

@@ -18,6 +18,7 @@
 --     Point3     a newer table judged from the older one's bounds
 --     AnyMemory  points 2 and 3 over any memory
 --     Sets       the sets of a bus table have no effect
+--     NoRun      what the rule of no row hit moves
 pub mod ByteSums
 pub mod Codes
 pub mod Places
@@ -36,3 +37,4 @@ pub mod Point2
 pub mod Point3
 pub mod AnyMemory
 pub mod Sets
+pub mod NoRun

@@ -7,6 +7,7 @@
 --     Point3     a newer table judged from the older one's bounds
 --     AnyMemory  points 2 and 3 over any memory, which the two before are cases of
 --     Sets       beside the points: the sets of a bus table have no effect
+--     NoRun      beside the points: what a window of 0 costs, against the rule of before
 pub mod Files
 pub mod Parts
 pub mod Refused
@@ -14,3 +15,4 @@ pub mod Point2
 pub mod Point3
 pub mod AnyMemory
 pub mod Sets
+pub mod NoRun

@@ -13,6 +13,10 @@ use Rattle.laws.specs.Idioms.{_/↑_}
 use Rattle.laws.proofs.Signed.{larger-cut}
 use Rattle.delays.specs.Figures.{figuresOf, FiguresBounded}
 
+none-or : (b : Bool) {n high : ℕ} → n ≤ high → cond b 0 n ≤ high
+none-or true h = omega arith
+none-or false h = h
+
 module _ (w : Row) (s : SoundRow w) where
   act-high : act w .0 ≤ 127
   unfolding act
@@ -54,7 +58,7 @@ module _ (w : Row) (s : SoundRow w) where
   run-high =
       let writes : window w /↑ 2 * (WL w + BL w / 2 + tWTR w) ≤ 256 * 262 = mul-le-mul {n₂ = 256} {m₂ = 262} (omega (arith, window-high)) (omega arith) in
       let reads : window w / 2 * CL w ≤ 256 * 127 = mul-le-mul {n₂ = 256} {m₂ = 127} (omega (arith, window-high)) (omega arith) in
-      omega arith
+      none-or (eqb (window w) 0) (omega arith)
 
   time-high : (c : Cycles) (n : ℕ) → c .0 ≤ n → inTime w c .0 ≤ n * 5000
   unfolding inTime

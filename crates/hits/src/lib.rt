@@ -62,11 +62,14 @@ pub fn conf(row: [u16; 15]) -> Cycles
     Cycles(figure(row, TRP) + figure(row, TRCD) + hit(row).0)
 }
 
-// RULES 3.5: the writes, then the reads, then the rest.
+// RULES 3.5: the writes, then the reads, then the rest; nothing where there is no row hit.
 pub fn run(row: [u16; 15], m: u64) -> Cycles
     requires { ⌜ m ≤ 65535 ⌝ }
     ensures { λ r. ⌜ r ≡ run row m ⌝ }
 {
+    if m == 0 {
+        return Cycles(0);
+    }
     let writes = times((m + 1) / 2, turn(row));
     let reads = times(m / 2, figure(row, CL));
     Cycles(writes + reads + less(figure(row, TWR), figure(row, TWTR)))

@@ -1,16 +1,23 @@
 -- `hits::run` meets its contract. Assumes nothing.
-use native.Mathlib.Omega.{arith}
 use borrow.Author.Needs.{needs}
+use borrow.Author.Tests.{ne-eqb}
+use native.Mathlib.Omega.{arith}
 use Rattle.rules.specs.Delays.{run}
 use Rattle.hits.proofs.run.Statement.{statement}
 use Rattle.hits.proofs.run.Tie as tie
 
 returns : tie.Need-returns
 unfolding run
-returns c =
+returns c = rw (c .if1 .taken)
+
+returns-2 : tie.Need-returns-2
+unfolding run
+returns-2 c =
     let b = c .before .before in
     let a = b .before .before in
-    rw (
+    let hits = a .before .before .before in
+    simp (ne-eqb _ 0 (hits .if1 .left))
+    (rw (
       c .less .ensures,
       c .before .figure3 .ensures .0,
       b .figure2 .ensures .0,
@@ -18,11 +25,11 @@ returns c =
       a .figure .ensures .0,
       a .before .times .ensures .0,
       a .before .before .turn .ensures .0,
-    )
+    ))
 
 pub run-spec : {M : Type 1} → statement M
 run-spec =
     tie.close
-    (tie.spec (λ c. omega arith) (λ c κs. search needs) (λ c κs. (omega arith, c .turn .ensures .1)) (λ c κs. search needs)
+    (tie.spec returns (λ c. omega arith) (λ c κs. search needs) (λ c κs. (omega arith, c .turn .ensures .1)) (λ c κs. search needs)
     (λ c κs. (omega arith, omega arith)) (λ c. omega arith) (λ c κs. search needs) (λ c κs. search needs) (λ c κs. search needs) (λ c. omega arith)
-    returns)
+    returns-2)
