@@ -1,10 +1,10 @@
 // What a judgement of a table that is passed directly meets before any round.
 ghost use mathlib.Core.Path.{_≡_};
 ghost use Rattle.rules.specs.Refusals.{checkJudged, checkStart};
+use basics::refused;
 use rules::Picos;
 use rules::Refusal;
 use rules::Table;
-use rules::refused;
 
 // The checks before every judgement.
 pub fn table(t: Table) -> Refusal

@@ -15,16 +15,16 @@ fn trailer(file: &[u8]) -> Refusal
     let n = file.len();
     let e = n - 12;
     if bytes::le32(file, e) as usize != e {
-        return rules::refused(3, 0);
+        return basics::refused(3, 0);
     }
     let total = sums::sums(&file[..e]);
     if bytes::le32(file, n - 8) as u64 != total.sum {
-        return rules::refused(4, 0);
+        return basics::refused(4, 0);
     }
     if bytes::le32(file, n - 4) as u64 != total.running {
-        return rules::refused(4, 0);
+        return basics::refused(4, 0);
     }
-    rules::refused(0, 0)
+    basics::refused(0, 0)
 }
 
 // 1 to 4.
@@ -32,10 +32,10 @@ pub fn whole(file: &[u8]) -> Refusal
     ensures { λ r. ⌜ r ≡ checkWhole (now (file .entry)) ⌝ }
 {
     if file.len() < 46 {
-        return rules::refused(1, 0);
+        return basics::refused(1, 0);
     }
     if file.len() != places::file_length(file[3], file[0], file[2]) {
-        return rules::refused(2, 0);
+        return basics::refused(2, 0);
     }
     trailer(file)
 }

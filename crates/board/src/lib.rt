@@ -13,7 +13,7 @@ pub fn all_costs(fourth: u8, cores: usize, sets: &[u16; 8], row: [u16; 15]) -> [
     requires { ⌜ (cores ≤ 8) × (saysBus fourth ≡ false → SoundRow row) ⌝ }
     ensures { λ r. ⌜ ((t : Table) → t .fourth ≡ fourth → t .cores ≡ cores → t .sets ≡ now (sets .entry) → t .timing ≡ row → r ≡ allCosts t) ⌝ }
 {
-    if rules::says_bus(fourth) {
+    if basics::says_bus(fourth) {
         return bus::all_costs(cores, row);
     }
     dram::all_costs(cores, sets, row)

@@ -113,7 +113,7 @@ fn judge_again(older: Table, newer: Table) -> bool {
         // where their timing figures differ, both tables are of one kind
         note_difference(
             order::difference(older, newer),
-            rules::says_bus(newer.fourth),
+            basics::says_bus(newer.fourth),
         );
     }
     true

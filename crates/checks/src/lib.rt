@@ -4,9 +4,9 @@ ghost use Prim.Native.Nat.{_≤_};
 ghost use Rattle.laws.specs.Idioms.{entry};
 ghost use Rattle.rules.specs.Chain.{first};
 ghost use Rattle.rules.specs.Refusals.{countsFault, checkRow, setFault, boardRefusal, checkBoard, checkTable};
+use basics::refused;
 use rules::Refusal;
 use rules::Table;
-use rules::refused;
 use tasks::outside;
 
 // Is a count outside its limits, or a bit of the fourth byte set that no table has (RULES 2.1)?
@@ -45,7 +45,7 @@ fn set_fault(partitions: u8, set: u16) -> bool
 fn check_row(fourth: u8, row: [u16; 15]) -> Refusal
     ensures { λ r. ⌜ r ≡ checkRow fourth row ⌝ }
 {
-    if rules::says_bus(fourth) {
+    if basics::says_bus(fourth) {
         return timing::check_bus(row);
     }
     timing::check(row)

@@ -57,7 +57,7 @@ pub fn settle(
     requires { ⌜ Ready (termsOf own (now from) (now periods) (now execs) (now asks)) given ⌝ }
     ensures { λ r. ⌜ r ≡ climbed (termsOf own (now (from .entry)) (now (periods .entry)) (now (execs .entry)) (now (asks .entry))) given ⌝ }
 {
-    let mut t = rules::most(lowest(own), given);
+    let mut t = basics::most(lowest(own), given);
     let mut n: u64 = 1;
     loop {
         let next = terms::apply(own, from, periods, invs, execs, asks, t);

@@ -5,8 +5,8 @@ ghost use lib.ListN.{getD};
 ghost use Rattle.laws.specs.Idioms.{_⊖_, larger};
 ghost use Rattle.rules.specs.Timing.{WL, BL, tWTR};
 ghost use Rattle.rules.specs.Delays.{pre, act, readwrite};
+use basics::most;
 use rules::Cycles;
-use rules::most;
 
 // The places of the figures in a row.
 pub const TCK: usize = 0;

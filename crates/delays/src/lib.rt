@@ -12,10 +12,10 @@ use cycles::pre;
 use cycles::readwrite;
 use hits::conf;
 use hits::reopen;
-use hits::run;
 use hits::window;
 use rules::Cycles;
 use rules::Picos;
+use runs::run;
 
 // The figures that a core's delays are made of, as times, and the window, a count.
 pub struct Figures {

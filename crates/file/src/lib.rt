@@ -59,7 +59,7 @@ fn figures_refusal(file: &[u8]) -> Refusal
     ensures { λ r. ⌜ r ≡ checkTable (decode (now (file .entry))) ⌝ }
 {
     if 8 < file[0] {
-        return rules::refused(5, 0);
+        return basics::refused(5, 0);
     }
     let board = board_in(file);
     if board.number != 0 {

@@ -1,7 +1,8 @@
-// What a request to its own bank costs (RULES 3.4 to 3.6), in cycles.
+// What a request to its own bank costs, and how many row hits may pass it (RULES 3.4, 3.6), in cycles.
 ghost use mathlib.Core.Path.{_≡_};
-ghost use Prim.Native.Nat.{_*_, _/_, _≤_, min};
-ghost use Rattle.rules.specs.Delays.{hit, reopen, conf, run, window};
+ghost use Prim.Native.Nat.{_/_, _≤_, min};
+ghost use Rattle.rules.specs.Delays.{hit, reopen, conf, window};
+use basics::most;
 use cycles::BL;
 use cycles::CL;
 use cycles::NCAP;
@@ -12,10 +13,7 @@ use cycles::TWR;
 use cycles::TWTR;
 use cycles::WL;
 use cycles::figure;
-use cycles::less;
-use cycles::turn;
 use rules::Cycles;
-use rules::most;
 
 fn least(a: u64, b: u64) -> u64
     ensures { λ r. ⌜ r ≡ min a b ⌝ }
@@ -28,14 +26,6 @@ fn quotient(a: u64, b: u64) -> u64
     ensures { λ r. ⌜ r ≡ a / b ⌝ }
 {
     if b == 0 { 0 } else { a / b }
-}
-
-// A count of at most 65535/2 rounded up, times a sum of figures.
-fn times(a: u64, b: u64) -> u64
-    requires { ⌜ (a ≤ 32768) × (b ≤ 163837) ⌝ }
-    ensures { λ r. ⌜ (r ≡ a * b) × (r ≤ 32768 * 163837) ⌝ }
-{
-    a * b
 }
 
 // RULES 3.4: as long as a read or a write takes, whichever is longer.
@@ -60,19 +50,6 @@ pub fn conf(row: [u16; 15]) -> Cycles
     ensures { λ r. ⌜ r ≡ conf row ⌝ }
 {
     Cycles(figure(row, TRP) + figure(row, TRCD) + hit(row).0)
-}
-
-// RULES 3.5: the writes, then the reads, then the rest; nothing where there is no row hit.
-pub fn run(row: [u16; 15], m: u64) -> Cycles
-    requires { ⌜ m ≤ 65535 ⌝ }
-    ensures { λ r. ⌜ r ≡ run row m ⌝ }
-{
-    if m == 0 {
-        return Cycles(0);
-    }
-    let writes = times((m + 1) / 2, turn(row));
-    let reads = times(m / 2, figure(row, CL));
-    Cycles(writes + reads + less(figure(row, TWR), figure(row, TWTR)))
 }
 
 // RULES 3.6: an Ncap of 65535 is unknown (RULES 2.4).

@@ -3,12 +3,12 @@ ghost use mathlib.Core.Path.{_≡_};
 ghost use Rattle.rules.specs.Operations.{judgeOne, judgeAll};
 ghost use Rattle.columns.specs.Numbered.{notJudged};
 ghost use Rattle.judge.specs.Starts.{inPicos};
+use basics::refused;
 use rules::AllJudged;
 use rules::Judged;
 use rules::Picos;
 use rules::Refusal;
 use rules::Table;
-use rules::refused;
 
 // A refused judgement of one.
 fn not_judged(refusal: Refusal) -> Judged

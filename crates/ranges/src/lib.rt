@@ -3,8 +3,8 @@ ghost use mathlib.Core.Path.{_≡_};
 ghost use Rattle.rules.specs.Chain.{first};
 ghost use Rattle.rules.specs.Refusals.{figureFault};
 ghost use Rattle.ranges.specs.Ranges.{notBurst, outOfRange, AreRanges};
+use basics::refused;
 use rules::Refusal;
-use rules::refused;
 
 // The lowest and highest of a figure.
 pub struct Limits(pub u16, pub u16);

@@ -53,7 +53,7 @@ pub fn store_answers(
     ensures { λ r. ⌜ Stored r (take n answers) (now (bounds .entry)) (now (rounds .entry)) (now (by .entry)) (now (bounds .exit)) (now (rounds .exit)) (now (by .exit)) ⌝ }
 {
     if short(n, bounds.len(), rounds.len(), by.len()) {
-        return rules::refused(TOO_SHORT, 0);
+        return basics::refused(TOO_SHORT, 0);
     }
     let mut i: usize = 0;
     while i < n {
@@ -64,5 +64,5 @@ pub fn store_answers(
         by[i] = by_number(verdict);
         i += 1;
     }
-    rules::refused(0, 0)
+    basics::refused(0, 0)
 }

@@ -5,11 +5,11 @@ ghost use Rattle.laws.specs.Idioms.{within};
 ghost use Rattle.rules.specs.Tasks.{noTask};
 ghost use Rattle.rules.specs.Refusals.{timeFault, checkTasks};
 ghost use Rattle.tasks.specs.Faults.{earliest, noFaults, withTask, toldBy};
+use basics::refused;
 use rules::Picos;
 use rules::Refusal;
 use rules::Table;
 use rules::Task;
-use rules::refused;
 
 // Is x below the lowest or above the highest?
 pub fn outside(lowest: u64, highest: u64, x: u64) -> bool

@@ -4,10 +4,10 @@ ghost use Prim.Native.Nat.{_%_, _≤_};
 ghost use Rattle.rules.specs.Timing.{ddr3-1333};
 ghost use Rattle.rules.specs.Chain.{first};
 ghost use Rattle.rules.specs.Refusals.{relationFault, checkTiming, busFault, checkBus};
+use basics::refused;
 use cycles::figure;
 use ranges::check_ranges;
 use rules::Refusal;
-use rules::refused;
 
 // The DDR3-1333 row (RULES 2.4).
 pub const DDR3_1333: [u16; 15] = [1500, 9, 9, 9, 7, 8, 5, 10, 4, 20, 24, 5, 2, 1024, 65535];

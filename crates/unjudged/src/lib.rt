@@ -6,11 +6,11 @@ ghost use Rattle.rules.specs.Judgement.{misses};
 ghost use Rattle.rules.specs.Chain.{isAccepted};
 ghost use Rattle.rules.specs.Operations.{noAnswers};
 ghost use Rattle.unjudged.specs.Unjudged.{firstAfter, noneJudged};
+use basics::refused;
 use rules::AllJudged;
 use rules::Answer;
 use rules::Refusal;
 use rules::Verdict;
-use rules::refused;
 
 // 13 for the first start that is after the latest allowed response.
 pub fn late(n: usize, latest: &[u64; 32], starts: &[u64; 32]) -> Refusal

@@ -13,12 +13,12 @@ pub fn view_refusal(file: &[u8], k: u8) -> Refusal
         return refusal;
     }
     if k < 1 {
-        return rules::refused(12, 0);
+        return basics::refused(12, 0);
     }
     if file[2] < k {
-        return rules::refused(12, 0);
+        return basics::refused(12, 0);
     }
-    rules::refused(0, 0)
+    basics::refused(0, 0)
 }
 
 // Viewing (RULES 7.4); what is refused shows no byte (RULES 9.2).

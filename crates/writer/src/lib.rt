@@ -27,12 +27,12 @@ pub fn write(t: Table, out: &mut [u8]) -> Written
     }
     let n = places::file_length(t.fourth, t.cores, t.tasks);
     if out.len() < n {
-        return wrote_nothing(rules::refused(15, 0));
+        return wrote_nothing(basics::refused(15, 0));
     }
     put_body(out, t);
     put_trailer(out, n - 12);
     Written {
-        refusal: rules::refused(0, 0),
+        refusal: basics::refused(0, 0),
         length: n,
     }
 }

@@ -1,7 +1,7 @@
-use Rattle.rules.proofs.says_bus.Statement.{statement}
-use Rattle.rules.proofs.says_bus.Tie as tie
 use native.Mathlib.Nat.{div-one}
 use Rattle.rules.specs.Kinds.{saysBus}
+use Rattle.basics.proofs.says_bus.Statement.{statement}
+use Rattle.basics.proofs.says_bus.Tie as tie
 
 returns : tie.Need-returns
 unfolding saysBus

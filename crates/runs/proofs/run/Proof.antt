@@ -1,14 +1,18 @@
--- `hits::run` meets its contract. Assumes nothing.
+-- `runs::run` meets its contract. Assumes nothing.
+use mathlib.Core.Path.{_≡_}
+use mathlib.Core.Logic.{_≢_}
 use borrow.Author.Needs.{needs}
 use borrow.Author.Tests.{ne-eqb}
 use native.Mathlib.Omega.{arith}
 use Rattle.rules.specs.Delays.{run}
-use Rattle.hits.proofs.run.Statement.{statement}
-use Rattle.hits.proofs.run.Tie as tie
+use Rattle.runs.proofs.run.Statement.{statement}
+use Rattle.runs.proofs.run.Tie as tie
 
 returns : tie.Need-returns
 unfolding run
-returns c = rw (c .if1 .taken)
+returns c =
+    let none : c .before .args .m ≡ 0 = omega arith in
+    rw none
 
 returns-2 : tie.Need-returns-2
 unfolding run
@@ -16,7 +20,8 @@ returns-2 c =
     let b = c .before .before in
     let a = b .before .before in
     let hits = a .before .before .before in
-    simp (ne-eqb _ 0 (hits .if1 .left))
+    let some : hits .before .args .m ≢ 0 = omega arith in
+    simp (ne-eqb _ 0 some)
     (rw (
       c .less .ensures,
       c .before .figure3 .ensures .0,

@@ -1,8 +1,8 @@
--- `hits::times` meets its contract. Assumes nothing.
+-- `runs::times` meets its contract. Assumes nothing.
 use native.Mathlib.Omega.{arith}
 use native.Mathlib.Nat.{mul-le-mul}
-use Rattle.hits.proofs.times.Statement.{statement}
-use Rattle.hits.proofs.times.Tie as tie
+use Rattle.runs.proofs.times.Statement.{statement}
+use Rattle.runs.proofs.times.Tie as tie
 
 mul-result : tie.Need-mul-result
 mul-result c = omega (arith, mul-le-mul (c .pre .0) (c .pre .1))

@@ -1,0 +1,26 @@
+// Small steps that many crates take: a refusal made, the kind of a table asked for, the larger of two numbers.
+ghost use mathlib.Core.Path.{_≡_};
+ghost use Prim.Native.Nat.{max};
+ghost use Rattle.rules.specs.Chain.{refused};
+ghost use Rattle.rules.specs.Kinds.{saysBus};
+use rules::Refusal;
+
+// RULES 9.1; 0, 0 where nothing is refused.
+pub fn refused(number: u8, place: u8) -> Refusal
+    ensures { λ r. ⌜ r ≡ refused number place ⌝ }
+{
+    Refusal { number, place }
+}
+
+// RULES 2.1: a table with this fourth byte is a bus table.
+pub fn says_bus(fourth: u8) -> bool
+    ensures { λ r. ⌜ r ≡ saysBus fourth ⌝ }
+{
+    fourth % 2 == 1
+}
+
+pub fn most(a: u64, b: u64) -> u64
+    ensures { λ r. ⌜ r ≡ max a b ⌝ }
+{
+    if a < b { b } else { a }
+}
