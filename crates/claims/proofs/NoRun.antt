@@ -51,8 +51,8 @@ no-run = record {
   none = no-hit;
   every-other = some-hit;
   falls = RD-falls;
-  fully = λ t ok dram. sound t ok .row dram .recovery;
-  else-RD-stays = λ t p. RD-stays t p (isBus t) (isEmpty (near t p)) refl refl;
+  not-cut-off = λ t ok dram. sound t ok .row dram .recovery;
+  RD-stays = λ t p. RD-stays t p (isBus t) (isEmpty (near t p)) refl refl;
   JD-stays = λ t p x. JD-stays t p x (isBus t) refl;
   figures = agree formerlyAndNow 1 refl;
 }

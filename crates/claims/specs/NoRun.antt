@@ -1,4 +1,4 @@
--- RULES 3.5 against the rule that it replaced, by which no row hit was a run too, of tWR − tWTR: what that moves, and that nothing else moves.
+-- RULES 3.5 against the rule that it replaced, by which a run of no row hit took tWR − tWTR: what the new rule moves, and that it moves nothing else.
 -- Assumes nothing.
 use Prim.Native.Nat.{ℕ, _+_, _*_, _-_, _/_, _≤_}
 use mathlib.Core.Path.{_≡_}
@@ -35,7 +35,7 @@ formerIntra t p =
 unfoldable pub formerMemory : Table → ℕ → Memory
 formerMemory t p = cond (isBus t) (busMemory t p) (record { perRequest = inter t p + formerIntra t p; perJob = JD t p })
 
--- where the rule matters: core p of a DRAM table with window 0 has another core near it
+-- where the rule matters: the window of a DRAM table is 0, and core p has another core near it
 pub record Spared (t : Table) (p : ℕ) : Type 0 where
   pub dram : isBus t ≡ false
   pub no-hits : window (t .timing) ≡ 0
@@ -60,8 +60,8 @@ pub record NoRun : Type 0 where
   pub falls : (t : Table) (p : ℕ) → Spared t p
       → formerMemory t p .perRequest ≡ memoryOf t p .perRequest + (tWR (t .timing) - tWTR (t .timing)) * tCK (t .timing)
   -- of an accepted table that difference is not cut off
-  pub fully : (t : Table) → AcceptedTable t → isBus t ≡ false → tWTR (t .timing) ≤ tWR (t .timing)
+  pub not-cut-off : (t : Table) → AcceptedTable t → isBus t ≡ false → tWTR (t .timing) ≤ tWR (t .timing)
   -- no other RD moves, and no JD
-  pub else-RD-stays : (t : Table) (p : ℕ) → ¬ Spared t p → formerMemory t p .perRequest ≡ memoryOf t p .perRequest
+  pub RD-stays : (t : Table) (p : ℕ) → ¬ Spared t p → formerMemory t p .perRequest ≡ memoryOf t p .perRequest
   pub JD-stays : (t : Table) (p x : ℕ) → formerMemory t p .perJob x ≡ memoryOf t p .perJob x
   pub figures : AllAgree formerlyAndNow

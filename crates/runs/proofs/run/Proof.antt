@@ -19,8 +19,8 @@ unfolding run
 returns-2 c =
     let b = c .before .before in
     let a = b .before .before in
-    let hits = a .before .before .before in
-    let some : hits .before .args .m ≢ 0 = omega arith in
+    let start = a .before .before .before .before in
+    let some : start .args .m ≢ 0 = omega arith in
     simp (ne-eqb _ 0 some)
     (rw (
       c .less .ensures,
