@@ -43,7 +43,7 @@ pub fn all(on: &mut Comparer, seed: u64, count: u64) -> Outcome {
     bus_cases::all(on, &mut rng)?;
     wide_totals(on, &mut rng)?;
     border_cases::all(on, &mut rng)?;
-    run_cases::all(on, &mut rng)?;
+    run_cases::all(on, &mut Rng::new(seed))?;
     pairs::reasons(on)?;
     for case in 0..count {
         random(on, &mut rng, case)?;
