@@ -159,7 +159,7 @@ module _ (t : Table) (k start : ℕ) (j : Judgeable t k start) where
   task-of : AcceptedTask t k
   task-of = record { table = judged-accepted t (j .judged); first = j .number .low; last = j .number .high }
 
-  holds-fresh : (R : ℕ) → Solution (F t k) 1 (latest (taskOf t k)) R → (v : Verdict) → judgeOne t k 0 .answer .verdict ≡ v → HoldsFresh t k R
+  pub holds-fresh : (R : ℕ) → Solution (F t k) 1 (latest (taskOf t k)) R → (v : Verdict) → judgeOne t k 0 .answer .verdict ≡ v → HoldsFresh t k R
   holds-fresh R solution (Holds bound by) e =
       let smallest = one-right t k task-of .holds (bound .0) .0 (by, e) in
       record { bound = bound .0; by = by; fresh = e; no-later = smallest .smallest R solution }

@@ -5,18 +5,22 @@ use mathlib.Core.Path.{_≡_}
 use mathlib.Core.Bool.{false, cond}
 use mathlib.Core.List.{List, [], _∷_}
 use lib.ListN.{length}
+use Rattle.equation.specs.Outcome.{Solution}
 use Rattle.laws.specs.Idioms.{_/↑_, sumOver, isEmpty}
 use Rattle.rules.specs.declared.Table.{Table}
 use Rattle.rules.specs.declared.Cycles.{Cycles}
 use Rattle.rules.specs.Timing.{Row, tCK, CL, WL, BL, tWTR, tWR}
 use Rattle.rules.specs.Units.{cycles, inTime}
+use Rattle.rules.specs.Tasks.{latest, taskOf, coreOf, higher}
 use Rattle.rules.specs.Kinds.{isBus}
 use Rattle.rules.specs.Delays.{readwrite, reopen, run, window}
 use Rattle.rules.specs.Cores.{near, far}
 use Rattle.rules.specs.Dram.{conflict, inter, JD}
 use Rattle.rules.specs.Board.{Memory, busMemory, memoryOf}
+use Rattle.rules.specs.Response.{response}
 use Rattle.rules.specs.Figures.{Figure, value, AllAgree, sharing2, sharing-and-apart}
 use Rattle.claims.specs.Files.{AcceptedTable}
+use Rattle.claims.specs.Point2.{AcceptedTask, HoldsFresh}
 
 -- the former rule, of every m, 0 too; it stands nowhere else
 unfoldable pub formerRun : Row → ℕ → Cycles
@@ -35,6 +39,10 @@ formerIntra t p =
 unfoldable pub formerMemory : Table → ℕ → Memory
 formerMemory t p = cond (isBus t) (busMemory t p) (record { perRequest = inter t p + formerIntra t p; perJob = JD t p })
 
+-- RULES 5.4 with it: what F of task k was
+abbrev pub formerF : Table → ℕ → ℕ → ℕ
+formerF t k = response (formerMemory t (coreOf t k)) (taskOf t k) (higher t k)
+
 -- where the rule matters: the window of a DRAM table is 0, and core p has another core near it
 pub record Spared (t : Table) (p : ℕ) : Type 0 where
   pub dram : isBus t ≡ false
@@ -52,7 +60,7 @@ formerlyAndNow =
     ∷ value (memoryOf (sharing-and-apart 0) 3 .perRequest) 75000
     ∷ []
 
--- for every row and every table, accepted or not
+-- of every row and every table, accepted or not, where nothing else is said
 pub record NoRun : Type 0 where
   pub none : (w : Row) → run w 0 ≡ cycles 0
   pub every-other : (w : Row) (m : ℕ) → 1 ≤ m → run w m ≡ formerRun w m
@@ -64,4 +72,6 @@ pub record NoRun : Type 0 where
   -- no other RD moves, and no JD
   pub RD-stays : (t : Table) (p : ℕ) → ¬ Spared t p → formerMemory t p .perRequest ≡ memoryOf t p .perRequest
   pub JD-stays : (t : Table) (p x : ℕ) → formerMemory t p .perJob x ≡ memoryOf t p .perJob x
+  -- so a task that had a bound has one, and no later: it holds no later than any time that satisfied its equation
+  pub no-later : (t : Table) (k : ℕ) → AcceptedTask t k → (R : ℕ) → Solution (formerF t k) 1 (latest (taskOf t k)) R → HoldsFresh t k R
   pub figures : AllAgree formerlyAndNow
