@@ -12,9 +12,11 @@ use crate::comparer::{Comparer, Difference, Reaches};
 
 type Outcome = Result<(), Difference>;
 
-/// Where tWR stands in the timing; tWTR is 5 there.
+/// Where figures stand in the timing.
+const TWTR: usize = 6;
 const TWR: usize = 7;
 
+/// tWTR is 5 in the fixed cases, so that the rest of a run is 0 to 12 cycles.
 pub fn all(on: &mut Comparer, rng: &mut Rng) -> Outcome {
     for sets in [&[1, 1][..], &[1, 2], &[1, 1, 2], &[3, 1, 2, 4], &[1; 8]] {
         for ncap in 0..=5 {
@@ -40,7 +42,7 @@ fn asked_once(sets: &[u16], ncap: u16, twr: u16) -> Vec<u8> {
     file
 }
 
-/// Random DRAM tables with Ncap 0. In some of them a bound has to show the delay of a request between cores that share.
+/// Random DRAM tables with Ncap 0. In some of them a bound has to show that no rest of a run is charged between cores that share.
 fn without_reordering(on: &mut Comparer, rng: &mut Rng) -> Outcome {
     let mut shown = 0;
     for _ in 0..50 {
@@ -49,12 +51,15 @@ fn without_reordering(on: &mut Comparer, rng: &mut Rng) -> Outcome {
         calls(on, &draft.file())?;
         shown += tasks_that_show_it(&draft);
     }
-    assert!(shown > 0, "no bound showed what a request costs without reordering");
+    assert!(shown > 0, "no bound showed that a run of no row hit costs nothing");
     Ok(())
 }
 
-/// How many tasks with requests hold by request on a core that shares a partition.
+/// How many tasks with requests hold by request on a core that shares a partition, where a run would have a rest.
 fn tasks_that_show_it(draft: &Draft) -> usize {
+    if draft.timing[TWR] == draft.timing[TWTR] {
+        return 0;
+    }
     let table = file::read(&draft.file()).expect("a draft is accepted");
     let judge = Judge::of_accepted(&table);
     let shares = |core: usize| {

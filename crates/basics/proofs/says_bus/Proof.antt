@@ -1,3 +1,4 @@
+-- Bit 0 of a byte is its remainder by 2. Assumes nothing.
 use native.Mathlib.Nat.{div-one}
 use Rattle.rules.specs.Kinds.{saysBus}
 use Rattle.basics.proofs.says_bus.Statement.{statement}
