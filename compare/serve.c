@@ -112,6 +112,8 @@ static uint64_t make(const struct head *h)
                          LENT(rounds, h->rounds_lent), h->rounds_lent, LENT(bytes, h->bytes_lent), h->bytes_lent);
     case 'w':
         return ryb_worsens(f, h->file_n, g, h->newer_n);
+    case 's':
+        return ryb_salvage(f, h->file_n, LENT(bytes, h->bytes_lent), h->bytes_lent);
     case 'm':
         return ryb_reason((uint8_t)h->number, LENT(bytes, h->bytes_lent), h->bytes_lent);
     }

@@ -9,8 +9,8 @@
  *
  * A function that returns a refusal returns its number plus 256 times its place, and 0 where nothing is refused. The place
  * counts from 1: the timing figure at fault for 6 and 16, the relation for 7, the core for 8, the task for 9, 10, 11, 13 and 14;
- * it is 0 for the others. Where several refusals apply the first in the list below is given, with its first place: that is the
- * lowest number, but that 16 stands in the place of 6 and 7. What is refused changes no buffer.
+ * it is 0 for the others. Where several refusals apply the first in the list below is given, with its first place; ryb_salvage
+ * has an order of its own. What is refused changes no buffer.
  */
 #ifndef RYEOBADUM_H
 #define RYEOBADUM_H
@@ -27,23 +27,33 @@ extern "C" {
 #define RYB_PLACE(refusal) ((refusal) / 256 % 256)
 #define RYB_TABLE(refusal) ((refusal) / 65536)
 
-/* The numbers, in the order in which they are looked for. 15 is of writing, which isn't here. */
+/* What ryb_salvage tells beside the number and the place of its refusal: three counts, and the length of the new file. */
+#define RYB_PROMISED(salvaged) ((salvaged) / 65536 % 256)
+#define RYB_KEPT(salvaged) ((salvaged) / 16777216 % 256)
+#define RYB_STOPPED(salvaged) ((salvaged) / 4294967296 % 256)
+#define RYB_LENGTH(salvaged) ((salvaged) / 1099511627776)
+
+/* The numbers, in the order in which they are looked for. */
 enum {
     RYB_SHORT_FILE = 1,    /* the file has under 46 bytes */
     RYB_BAD_LENGTH = 2,    /* the length isn't 46 + 2 * cores + 29 * tasks by the header's counts */
     RYB_BAD_TRAILER = 3,   /* the trailer's first number isn't the length less 12 */
     RYB_BAD_SUM = 4,       /* either sum of the trailer is wrong */
-    RYB_BAD_COUNT = 5,     /* a count is outside its limits (cores 1..8, partitions 1..16, tasks 1..32), or byte four isn't 0 or 1 */
+    RYB_BAD_COUNT = 5,     /* a count is outside its limits (cores 1..8, partitions 1..16, tasks 1..32), or byte four isn't 0 to 3 */
     RYB_BAD_FIGURE = 6,    /* in a DRAM table a timing figure is outside its range */
     RYB_BAD_RELATION = 7,  /* in a DRAM table a relation between timing figures is broken */
-    RYB_BAD_BUS = 16,      /* in a bus table (byte four is 1) the first timing figure is 0, or another isn't */
+    RYB_BAD_BUS = 16,      /* in a bus table (byte four is 1 or 3) the first timing figure is 0, or another isn't */
     RYB_BAD_SET = 8,       /* a core's set is empty or names a partition above the count */
     RYB_BAD_CORE = 9,      /* a task's core isn't 1..cores */
     RYB_BAD_TIME = 10,     /* a task's T, D or C is outside its limits (10^8 <= T <= 10^12, 1 <= D <= T, 1 <= C <= D) */
     RYB_BAD_REQUESTS = 11, /* a task's H is above 1,000,000 */
+    RYB_SALVAGED = 18,     /* a salvaged table (byte four is 2 or 3) is to be judged */
     RYB_NO_TASK = 12,      /* the task asked for isn't 1..tasks */
     RYB_LATE_START = 13,   /* a given start is above the task's D */
     RYB_HIGH_START = 14,   /* F(s) < s, where s is the larger of C and the given start, and F(s) what a round makes of s */
+    RYB_NO_ROOM = 15,      /* the output is shorter than the new file */
+    RYB_NONE_WHOLE = 17,   /* to be salvaged: the file ends before its sets do, or no record of it is kept */
+    RYB_NOT_CUT = 19,      /* to be salvaged: the file is accepted as it is */
     RYB_SHORT_OUTPUT = 255 /* an output has fewer places than the file has tasks */
 };
 
@@ -67,6 +77,7 @@ enum {
 #define RYB_MAX_TASKS 32     /* the most tasks of an accepted file */
 #define RYB_MAX_CORES 8      /* the most cores */
 #define RYB_MAX_FILE 7951    /* no input of more bytes is accepted */
+#define RYB_MAX_NEW 990      /* no new file of ryb_salvage has more */
 #define RYB_MAX_LISTING 3266 /* no listing is longer */
 #define RYB_MAX_REASON 66    /* no text of ryb_reason is longer */
 #define RYB_RECORD 29        /* the bytes of a task's record */
@@ -110,7 +121,7 @@ size_t ryb_tasks(const uint8_t *file, size_t n);
  *   by[k]      is RYB_MISSES, RYB_HOLDS_BY_REQUEST or RYB_HOLDS_BY_JOB.
  * Places beyond the tasks keep what they held.
  *
- * Returns the refusal (1 to 11, 13, 14 or 16) where the file or a start is refused. Returns RYB_SHORT_OUTPUT where all of that is
+ * Returns the refusal (1 to 11, 16, 18, 13 or 14) where the file or a start is refused. Returns RYB_SHORT_OUTPUT where all of that is
  * accepted and bounds, rounds or by has fewer places than the file has tasks; RYB_MAX_TASKS places are always enough. In either
  * case no output is changed.
  */
@@ -152,8 +163,8 @@ size_t ryb_record(const uint8_t *file, size_t n, uint8_t task);
  * Returns 0 where all tasks are judged. Then bounds, rounds and by say of the newer file's tasks what they say after ryb_judge,
  * and places beyond the tasks keep what they held.
  *
- * Returns else the refusal plus 65536 times the file that it is about. The older file's come first (1 to 11 or 16, with
- * RYB_OLDER), then the newer's (the same, with RYB_NEWER), then RYB_SHORT_OUTPUT, with neither, where bounds, rounds or by has
+ * Returns else the refusal plus 65536 times the file that it is about. The older file's come first (1 to 11, 16 or 18,
+ * with RYB_OLDER), then the newer's (the same, with RYB_NEWER), then RYB_SHORT_OUTPUT, with neither, where bounds, rounds or by has
  * fewer places than the newer file has tasks. In each case no output is changed.
  */
 uint32_t ryb_carry(const uint8_t *older, size_t older_n,
@@ -166,10 +177,26 @@ uint32_t ryb_carry(const uint8_t *older, size_t older_n,
  * Asks whether the newer of two table files is the older one worsened: alike in everything but that the tasks' C and H may be
  * raised and their T shortened.
  *
- * Returns 1 where ryb_read accepts both files and that is so: then ryb_carry begins at the older bounds. Returns 0 otherwise.
- * Writes nothing.
+ * Returns 1 where both files are accepted, neither is salvaged and that is so: then ryb_carry begins at the older bounds. Returns
+ * 0 otherwise. Writes nothing.
  */
 uint8_t ryb_worsens(const uint8_t *older, size_t older_n, const uint8_t *newer, size_t newer_n);
+
+/*
+ * Takes back what is whole of a table file that was cut, file[0..n), and writes it to out as a new table file. The header, the timing
+ * figures and the sets have to be there; the task records are kept in their order, up to the first that isn't whole or is refused
+ * by 9 to 11. The new file has the count of those and bit 1 of byte four set, which says that it is salvaged: ryb_read accepts it,
+ * ryb_view and ryb_record show it, and nothing judges it, since tasks that are missing delay those that aren't.
+ *
+ * Returns r, with RYB_NUMBER(r) 0, where that is done: RYB_PROMISED(r) is how many records the header promised, RYB_KEPT(r) how
+ * many are kept, RYB_STOPPED(r) the number of the record where it stopped, 0 where none is lacking, and RYB_LENGTH(r) the length
+ * of the new file in out. The bytes of out after it are left as they were.
+ *
+ * Returns else the refusal, in which those four are 0: RYB_NOT_CUT where ryb_read accepts the file; RYB_NONE_WHOLE where it ends
+ * before its sets do; 5 to 8 or 16; RYB_NONE_WHOLE where no record is kept; RYB_NO_ROOM where the new file doesn't fit in out_n
+ * bytes, and RYB_MAX_NEW are always enough. Then nothing is changed.
+ */
+uint64_t ryb_salvage(const uint8_t *file, size_t n, uint8_t *out, size_t out_n);
 
 /*
  * Writes a short text for a refusal's number (RYB_NUMBER) to out: what is wrong, in ASCII, with no line feed and no zero byte

@@ -5,6 +5,7 @@ use crate::file::{self, record_at};
 use crate::judge::{Answer, By, Judge, Verdict};
 use crate::listing::listing;
 use crate::refusal::Refusal;
+use crate::salvage::{self, Salvaged};
 
 /// The number of an output that is too short for the tasks, which only the C functions refuse.
 pub const SHORT_OUTPUT: u8 = 255;
@@ -57,11 +58,11 @@ pub fn record(bytes: &[u8], number: u8) -> usize {
 /// `ryb_carry`: a refusal with 65536 times the file that it is about, 1 the older and 2 the newer.
 pub fn carry(older: &[u8], newer: &[u8], bounds: &mut [u64], rounds: &mut [u64], by: &mut [u8]) -> u32 {
     let refused = |refusal: Refusal, file: u32| u32::from(refusal.code()) + 65536 * file;
-    let was = match file::read(older) {
+    let was = match file::read_to_judge(older) {
         Ok(table) => table,
         Err(refusal) => return refused(refusal, 1),
     };
-    let is = match file::read(newer) {
+    let is = match file::read_to_judge(newer) {
         Ok(table) => table,
         Err(refusal) => return refused(refusal, 2),
     };
@@ -71,10 +72,24 @@ pub fn carry(older: &[u8], newer: &[u8], bounds: &mut [u64], rounds: &mut [u64],
 
 /// `ryb_worsens`.
 pub fn worsens(older: &[u8], newer: &[u8]) -> u8 {
-    match (file::read(older), file::read(newer)) {
+    match (file::read_to_judge(older), file::read_to_judge(newer)) {
         (Ok(was), Ok(is)) => carry::worsens(&was, &is).into(),
         _ => 0,
     }
+}
+
+/// `ryb_salvage`: the refusal, the three counts and the length of the new file in one word (RULES 10.3).
+pub fn salvage(bytes: &[u8], out: &mut [u8]) -> u64 {
+    match salvage::salvage(bytes, out) {
+        Ok(salvaged) => salvage_word(salvaged),
+        Err(refusal) => refusal.code().into(),
+    }
+}
+
+/// The word of a salvage that is not refused.
+pub fn salvage_word(salvaged: Salvaged) -> u64 {
+    let Salvaged { promised, kept, stopped, length } = salvaged;
+    u64::from(promised) << 16 | u64::from(kept) << 24 | u64::from(stopped) << 32 | (length as u64) << 40
 }
 
 fn code(result: Result<(), Refusal>) -> u16 {
@@ -88,7 +103,7 @@ fn try_judge(
     rounds: &mut [u64],
     by: &mut [u8],
 ) -> Result<(), Refusal> {
-    let table = file::read(bytes)?;
+    let table = file::read_to_judge(bytes)?;
     let answers = Judge::of_accepted(&table).all(starts)?;
     store(&answers[..table.tasks().len()], bounds, rounds, by)
 }

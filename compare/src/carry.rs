@@ -17,7 +17,7 @@ fn worse(was: &Task, is: &Task) -> bool {
     (was.core, was.d) == (is.core, is.d) && was.c <= is.c && was.h <= is.h && was.t >= is.t
 }
 
-/// RULES 6.5: the newer table's answers, from the older bounds if it is the older one worsened, else fresh.
+/// RULES 6.5: the newer table's answers, from the older bounds if it is the older one worsened, else fresh. Neither is salvaged.
 pub fn answers(older: &Table, newer: &Table) -> [Answer; TASKS] {
     let starts: Vec<u64> =
         if worsens(older, newer) { fresh(older).iter().map(older_bound).collect() } else { Vec::new() };

@@ -12,6 +12,7 @@ use crate::bus_cases;
 use crate::comparer::{Comparer, Difference, Reaches};
 use crate::pairs;
 use crate::run_cases;
+use crate::salvage_cases;
 
 type Outcome = Result<(), Difference>;
 
@@ -44,6 +45,7 @@ pub fn all(on: &mut Comparer, seed: u64, count: u64) -> Outcome {
     wide_totals(on, &mut rng)?;
     border_cases::all(on, &mut rng)?;
     run_cases::all(on, &mut Rng::new(seed))?;
+    salvage_cases::all(on, &mut Rng::new(seed))?;
     pairs::reasons(on)?;
     for case in 0..count {
         random(on, &mut rng, case)?;
@@ -68,11 +70,12 @@ fn other_calls(on: &mut Comparer, file: &[u8]) -> Outcome {
     on.judge(file, &[], Reaches::all(TASKS))?;
     on.judge(file, &[], Reaches::all(0))?;
     on.list(file, 4096)?;
+    on.salvage(file, LONGEST)?;
     view(on, file, 1)
 }
 
 /// What is said of a task's record, and where it is.
-fn view(on: &mut Comparer, file: &[u8], number: u8) -> Outcome {
+pub fn view(on: &mut Comparer, file: &[u8], number: u8) -> Outcome {
     on.view(file, number)?;
     on.record(file, number)?;
     Ok(())
@@ -410,6 +413,7 @@ fn random(on: &mut Comparer, rng: &mut Rng, case: u64) -> Outcome {
     }
     let faulty = faulty(rng, &draft);
     pairs::random(on, rng, &draft, &faulty)?;
+    salvage_cases::random(on, &mut rng.clone(), &draft)?;
     match case % 16 {
         0 => cuts(on, &file),
         1 => records(on, &file),
@@ -488,7 +492,7 @@ fn altered(on: &mut Comparer, file: &[u8], at: usize, value: u8) -> Outcome {
     calls(on, &file)
 }
 
-/// The table with one to four faults, to try the order of refusals and the first place.
+/// The table with one to four faults, to try the order of refusals and the first place. That it is salvaged, as some are, is none.
 fn faulty(rng: &mut Rng, sound: &Draft) -> Draft {
     let mut draft = sound.clone();
     for _ in 0..rng.between(1, 4) {

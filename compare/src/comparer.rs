@@ -6,7 +6,7 @@ use std::io;
 
 use compare_model::answers;
 use compare_model::gen::Rng;
-use compare_model::table::Kind;
+use compare_model::table::{Kind, SALVAGED_BIT};
 
 use crate::library::{Lent, Library};
 
@@ -60,6 +60,22 @@ pub struct Verdicts {
     pub misses: u64,
 }
 
+/// What became of the files that were to be salvaged.
+#[derive(Clone, Debug, Default)]
+pub struct Salvages {
+    /// No record was lacking.
+    pub all_kept: u64,
+    /// It stopped at a record.
+    pub stopped: u64,
+    /// How many of these were salvaged before.
+    pub again: u64,
+    pub refused: BTreeMap<u16, u64>,
+    /// New files that were read, shown, cut and salvaged again.
+    pub followed: u64,
+    /// Salvaged files that nothing judged.
+    pub unjudged: u64,
+}
+
 /// What was met, to show that the cases reach what they should.
 #[derive(Clone, Debug, Default)]
 pub struct Tally {
@@ -75,6 +91,7 @@ pub struct Tally {
     pub too_short: u64,
     pub pairs: u64,
     pub worsened: u64,
+    pub salvages: Salvages,
 }
 
 /// What a judgement answers and leaves in its outputs.
@@ -91,6 +108,36 @@ struct Judged {
 struct Listed {
     length: usize,
     out: Vec<u8>,
+}
+
+/// What a salvage answers and leaves in its output.
+#[derive(Clone, PartialEq, Eq)]
+pub struct Salvage {
+    word: u64,
+    out: Vec<u8>,
+}
+
+impl Salvage {
+    /// The refusal, or the counts promised and kept, and the number where it stopped.
+    pub fn told(&self) -> Result<[u8; 3], u16> {
+        let [number, place, promised, kept, stopped, ..] = self.word.to_le_bytes();
+        match u16::from_le_bytes([number, place]) {
+            0 => Ok([promised, kept, stopped]),
+            code => Err(code),
+        }
+    }
+
+    /// The new file, unless it is refused.
+    pub fn new_file(&self) -> Option<&[u8]> {
+        self.told().ok().map(|_| &self.out[..(self.word >> 40) as usize])
+    }
+}
+
+impl fmt::Debug for Salvage {
+    fn fmt(&self, f: &mut fmt::Formatter) -> fmt::Result {
+        let length = self.word >> 40;
+        write!(f, "{:#x}: {:?}, length {length}, out {}", self.word, self.told(), hexadecimal(&self.out))
+    }
 }
 
 pub struct Comparer {
@@ -238,6 +285,18 @@ impl Comparer {
         same(theirs, own, newer, || format!("ryb_worsens after {}", hexadecimal(older)))
     }
 
+    /// `ryb_salvage` into `room` bytes.
+    pub fn salvage(&mut self, file: &[u8], room: usize) -> Result<Salvage, Difference> {
+        let out = self.filled_bytes(room);
+        let mut own = Salvage { word: 0, out: out.clone() };
+        own.word = answers::salvage(file, &mut own.out[..room]);
+        let mut theirs = Salvage { word: 0, out };
+        let word = self.library.salvage(file, Lent::new(&mut theirs.out, room));
+        let theirs = word.map(|word| Salvage { word, ..theirs });
+        self.count_salvage(file, &own);
+        same(theirs, own, file, || format!("ryb_salvage into {room} bytes"))
+    }
+
     /// `ryb_reason`, whose words are the library's own: a text of some printable bytes, which fits its own length and no less. Answers it.
     pub fn reason(&mut self, number: u8) -> Result<Vec<u8>, Difference> {
         let long = self.reason_into(number, 200)?;
@@ -304,6 +363,19 @@ impl Comparer {
         match code % 256 {
             0 => self.tally.accepted += 1,
             number => *self.tally.refused.entry(number).or_default() += 1,
+        }
+    }
+
+    fn count_salvage(&mut self, file: &[u8], salvage: &Salvage) {
+        self.tally.calls += 1;
+        let salvages = &mut self.tally.salvages;
+        match salvage.told() {
+            Err(code) => *salvages.refused.entry(code % 256).or_default() += 1,
+            Ok([.., stopped]) => {
+                salvages.all_kept += u64::from(stopped == 0);
+                salvages.stopped += u64::from(stopped != 0);
+                salvages.again += u64::from(file[3] & SALVAGED_BIT != 0);
+            }
         }
     }
 

@@ -38,6 +38,7 @@ extern "C" {
         by_n: usize,
     ) -> u32;
     fn ryb_worsens(older: *const u8, older_n: usize, newer: *const u8, newer_n: usize) -> u8;
+    fn ryb_salvage(file: *const u8, n: usize, out: *mut u8, out_n: usize) -> u64;
     fn ryb_reason(number: u8, out: *mut u8, out_n: usize) -> usize;
 }
 
@@ -127,6 +128,11 @@ impl Library for Linked {
     fn worsens(&mut self, older: &[u8], newer: &[u8]) -> io::Result<u8> {
         // SAFETY: the pointers and the lengths are those of slices.
         Ok(unsafe { ryb_worsens(start(older), older.len(), start(newer), newer.len()) })
+    }
+
+    fn salvage(&mut self, file: &[u8], out: Lent<u8>) -> io::Result<u64> {
+        // SAFETY: the pointers and the lengths are those of slices.
+        Ok(unsafe { ryb_salvage(start(file), file.len(), lent_start(out.all, out.reach), out.reach) })
     }
 
     fn reason(&mut self, number: u8, out: Lent<u8>) -> io::Result<usize> {

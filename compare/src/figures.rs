@@ -8,6 +8,7 @@ use crate::file::{self, LONGEST, LONGEST_BY_HEADER, RECORD, SETS_AT, SHORTEST};
 use crate::judge::{Answer, By, Judge, Verdict};
 use crate::listing::listing;
 use crate::refusal::Refusal;
+use crate::salvage::{salvage, Salvaged};
 use crate::table::{Table, Task, CORES, FIGURES};
 
 fn table(partitions: u8, sets: &[u16], tasks: &[Task]) -> Table {
@@ -336,18 +337,18 @@ fn order_of_refusals_on_a_bus() {
     table.sets[1] = 4;
     assert_eq!(table.check(), Err(Refusal { number: 8, place: 2 }));
     table.timing[14] = 65_535;
-    assert_eq!(table.check(), Err(Refusal { number: 16, place: 15 }));
-    table.fourth = 3;
-    assert_eq!(table.check(), Err(Refusal::plain(5)));
+    for (fourth, refusal) in [(1, Refusal::at(16, 14)), (3, Refusal::at(16, 14)), (5, Refusal::plain(5))] {
+        assert_eq!(Table { fourth, ..table }.check(), Err(refusal));
+    }
 }
 
-/// Bit 0 alone passes. Without it a bus's figures are refused as those of a DRAM, and with it a DRAM's as those of a bus.
+/// Bits 0 and 1 pass. Without bit 0 a bus's figures are refused as those of a DRAM, and with it a DRAM's as those of a bus. Bit 1 changes neither.
 #[test]
 fn fourth_bytes() {
     for fourth in 0..=u8::MAX {
         let (of_dram, of_bus) = match fourth {
-            0 => (Ok(()), Err(Refusal { number: 6, place: 1 })),
-            1 => (Err(Refusal { number: 16, place: 2 }), Ok(())),
+            0 | 2 => (Ok(()), Err(Refusal { number: 6, place: 1 })),
+            1 | 3 => (Err(Refusal { number: 16, place: 2 }), Ok(())),
             _ => (Err(Refusal::plain(5)), Err(Refusal::plain(5))),
         };
         for (table, expected) in [(listed(), of_dram), (on_bus(&listed(), 37_500), of_bus)] {
@@ -380,4 +381,111 @@ fn border_of_the_two_delays() {
         assert_eq!((parts.request, &parts.sums[..4]), (request, &[200, 200, 260, 300][..]));
         assert_eq!(judge.one(1, 0), Ok(Answer { verdict: Verdict::Holds { bound, by }, rounds: 2 }));
     }
+}
+
+/// The listed table with this fourth byte, and with the timing of its kind.
+fn with_fourth(fourth: u8) -> Table {
+    let table = if fourth & 1 == 0 { listed() } else { on_bus(&listed(), 37_500) };
+    Table { fourth, ..table }
+}
+
+/// 18 comes after 11 and 16, and before 12, 13, and an output that is too short.
+#[test]
+fn salvaged_tables_are_not_judged() {
+    let refused = Err(Refusal::plain(18));
+    for mut table in [2, 3].map(with_fourth) {
+        assert_eq!(
+            [(1, 0), (4, 0), (0, 0), (3, u64::MAX)].map(|(number, start)| judged(&table, number, start)),
+            [refused; 4]
+        );
+        let file = bytes(&table);
+        assert_eq!([answers::read(&file), answers::whole(&file)], [0, 0]);
+        assert_eq!([1, 3, 4].map(|number| answers::view(&file, number)), [0, 0, 12]);
+        assert_eq!(answers::judge(&file, &[u64::MAX], &mut [], &mut [], &mut []), 18);
+        assert_eq!(listing(&file), "refused 18\n");
+        table.task[2].h = 1_000_001;
+        assert_eq!(judged(&table, 4, 0), Err(Refusal { number: 11, place: 3 }));
+    }
+    let mut table = with_fourth(3);
+    table.timing[14] = 1;
+    assert_eq!(judged(&table, 1, 0), Err(Refusal { number: 16, place: 15 }));
+}
+
+/// The older file's refusal comes first, 18 like the others. But for the bit each is the other worsened.
+#[test]
+fn salvaged_tables_are_not_carried() {
+    let carried = |older: &[u8], newer: &[u8]| answers::carry(older, newer, &mut [0; 3], &mut [0; 3], &mut [0; 3]);
+    for fourth in [2, 3] {
+        let (file, like) = (bytes(&with_fourth(fourth)), bytes(&with_fourth(fourth - 2)));
+        assert_eq!([carried(&like, &like), answers::worsens(&like, &like).into()], [0, 1]);
+        assert_eq!([carried(&file, &like), carried(&file, &file), carried(&file, &[])], [18 + 65_536; 3]);
+        assert_eq!([carried(&like, &file), carried(&[], &file)], [18 + 2 * 65_536, 1 + 65_536]);
+        assert_eq!([(&file, &like), (&like, &file), (&file, &file)].map(|(was, is)| answers::worsens(was, is)), [0; 3]);
+    }
+}
+
+/// What is told of a salvage with room enough, and its new file.
+fn salvaged_of(file: &[u8]) -> Result<([u8; 3], Vec<u8>), Refusal> {
+    let mut out = [0; LONGEST];
+    let Salvaged { promised, kept, stopped, length } = salvage(file, &mut out)?;
+    Ok(([promised, kept, stopped], out[..length].to_vec()))
+}
+
+/// RULES 11.14.
+#[test]
+fn a_cut_file() {
+    let file = bytes(&listed());
+    let told = |file: &[u8]| salvaged_of(file).map(|(counts, _)| counts);
+    assert_eq!((file.len(), [1, 2, 3].map(|number| answers::record(&file, number))), (137, [38, 67, 96]));
+    let (counts, new) = salvaged_of(&file[..100]).expect("two records are whole");
+    assert_eq!((counts, new.len()), ([3, 2, 3], 108));
+    assert_eq!((&new[..4], &new[4..96]), (&[2, 2, 2, 2][..], &file[4..96]));
+    assert_eq!([answers::whole(&new), answers::read(&new)], [0, 0]);
+    assert_eq!(listing(&new), "refused 18\n");
+    assert_eq!(told(&file[..67]), Ok([3, 1, 2]));
+    assert_eq!([66, 37].map(|length| told(&file[..length])), [Err(Refusal::plain(17)); 2]);
+    assert_eq!(told(&file), Err(Refusal::plain(19)));
+    assert_eq!(told(&file[..136]), Ok([3, 3, 0]));
+    let mut altered = file.clone();
+    altered[67] = 3;
+    assert_eq!(told(&altered), Ok([3, 1, 2]));
+}
+
+/// RULES 10.3: the counts, the number and the length in one word; a refusal as it is elsewhere.
+#[test]
+fn the_word_of_a_salvage() {
+    let file = bytes(&listed());
+    let word = |file: &[u8], room: usize| answers::salvage(file, &mut vec![0; room]);
+    let of_two = 65_536 * 3 + (1 << 24) * 2 + (1 << 32) * 3 + (1 << 40) * 108;
+    assert_eq!([108, 109, 107, 0].map(|room| word(&file[..100], room)), [of_two, of_two, 15, 15]);
+    let mut faulty = file.clone();
+    faulty[36] = 0;
+    assert_eq!([word(&file, 0), word(&faulty, 0)], [19, 8 + 2 * 256]);
+}
+
+/// RULES 9.5: with every later refusal the first is given. A record's own number isn't.
+#[test]
+fn order_of_refusals_of_a_salvage() {
+    let mut file = bytes(&listed());
+    let told = |file: &[u8], length: usize| salvage(&file[..length], &mut []).map(|_| ());
+    let refused = |number, place| Err(Refusal { number, place });
+    assert_eq!(told(&file, file.len()), refused(19, 0));
+    assert_eq!(told(&file, 67), refused(15, 0));
+    file[38] = 3;
+    assert_eq!([66, 67, 137].map(|length| told(&file, length)), [refused(17, 0); 3]);
+    for (at, value, refusal) in [
+        (36, 0, refused(8, 2)),
+        (4 + 2 * 7, 4, refused(7, 1)),
+        (4 + 2 * 2, 0, refused(6, 3)),
+        (3, 3, refused(16, 2)),
+        (3, 4, refused(5, 0)),
+        (1, 17, refused(5, 0)),
+        (0, 9, refused(5, 0)),
+    ] {
+        file[at] = value;
+        assert_eq!([52, 67, 137].map(|length| told(&file, length)), [refusal; 3]);
+        assert_eq!(told(&file, 37), refused(17, 0));
+    }
+    assert_eq!([3, 51].map(|length| told(&file, length)), [refused(17, 0); 2]);
+    assert_eq!([0, 1, 2, 3].map(|length| told(&[0; 3], length)), [refused(17, 0); 4]);
 }

@@ -27,21 +27,41 @@ pub const fn record_at(cores: usize, number: usize) -> usize {
 /// The table of a file, or the first of refusals 1 to 11 and 16 that applies.
 pub fn read(file: &[u8]) -> Result<Table, Refusal> {
     whole(file)?;
-    let [cores, partitions, tasks, fourth] = part(file, 0);
-    let mut table = Table { cores, partitions, tasks, fourth, ..Table::default() };
-    table.check_header()?;
-    for (figure, bytes) in table.timing.iter_mut().zip(file[TIMING_AT..SETS_AT].chunks_exact(2)) {
-        *figure = u16::from_le_bytes(part(bytes, 0));
-    }
-    let (sets, tasks) = file[SETS_AT..file.len() - TRAILER].split_at(2 * usize::from(table.cores));
-    for (set, bytes) in table.sets.iter_mut().zip(sets.chunks_exact(2)) {
-        *set = u16::from_le_bytes(part(bytes, 0));
-    }
-    for (task, record) in table.task.iter_mut().zip(tasks.chunks_exact(RECORD)) {
+    let mut table = read_board(file)?;
+    for (task, record) in table.task.iter_mut().zip(records(file)) {
         *task = read_record(record);
     }
     table.check()?;
     Ok(table)
+}
+
+/// The table of a file that is to be judged: refused by 18 too.
+pub fn read_to_judge(file: &[u8]) -> Result<Table, Refusal> {
+    let table = read(file)?;
+    table.check_not_salvaged()?;
+    Ok(table)
+}
+
+/// The counts, timing figures and sets of a file that reaches their end, unless the counts are refused by 5.
+pub fn read_board(file: &[u8]) -> Result<Table, Refusal> {
+    let [cores, partitions, tasks, fourth] = part(file, 0);
+    let mut table = Table { cores, partitions, tasks, fourth, ..Table::default() };
+    table.check_header()?;
+    read_figures(&file[TIMING_AT..], &mut table.timing);
+    read_figures(&file[SETS_AT..], &mut table.sets[..usize::from(cores)]);
+    Ok(table)
+}
+
+fn read_figures(bytes: &[u8], figures: &mut [u16]) {
+    for (figure, bytes) in figures.iter_mut().zip(bytes.chunks_exact(2)) {
+        *figure = u16::from_le_bytes(part(bytes, 0));
+    }
+}
+
+/// The records that the counts promise, as far as the file reaches their ends.
+pub fn records(file: &[u8]) -> impl Iterator<Item = &[u8]> {
+    let [cores, _, tasks, _] = part::<HEADER>(file, 0).map(usize::from);
+    file[record_at(cores, 1)..].chunks_exact(RECORD).take(tasks)
 }
 
 /// Writes the file of a table and answers its length. Refuses by 5 to 11, 16 and 15, and then writes nothing.
@@ -112,7 +132,7 @@ fn write_body(table: &Table, body: &mut [u8]) {
     }
 }
 
-fn read_record(record: &[u8]) -> Task {
+pub fn read_record(record: &[u8]) -> Task {
     Task {
         core: record[0],
         c: u64::from_le_bytes(part(record, 1)),

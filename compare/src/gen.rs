@@ -5,7 +5,7 @@ use crate::delay::Delays;
 use crate::dram::{Timing, BL, DDR3_1333, RANGES};
 use crate::file::{file_length, seal, write_record, RECORD, TRAILER};
 use crate::judge::{Answer, Verdict};
-use crate::table::{Kind, Table, Task, FIGURES, H_HIGHEST, T_HIGHEST, T_LOWEST};
+use crate::table::{Kind, Table, Task, FIGURES, H_HIGHEST, SALVAGED_BIT, T_HIGHEST, T_LOWEST};
 
 /// The place of Ncols among the figures, from 0.
 const NCOLS: usize = 13;
@@ -74,6 +74,11 @@ impl Draft {
     /// The same on a bus whose s is this.
     pub fn on_bus(&self, turn: u16) -> Draft {
         self.with_timing(Kind::Bus, bus::figures(turn))
+    }
+
+    /// The same, salvaged.
+    pub fn salvaged(&self) -> Draft {
+        Draft { fourth: self.fourth | SALVAGED_BIT, ..self.clone() }
     }
 
     /// The file, with its trailer.

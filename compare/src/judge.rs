@@ -1,4 +1,4 @@
-//! The response equation and its rounds: refusals 12 to 14.
+//! The response equation and its rounds: refusals 18 and 12 to 14.
 
 use crate::delay::Delays;
 use crate::refusal::{first_fault, Refusal};
@@ -36,14 +36,15 @@ pub struct Judge<'a> {
 }
 
 impl<'a> Judge<'a> {
-    /// Refuses by 5 to 11 and 16.
+    /// Refuses by 5 to 11, 16 and 18.
     pub fn new(table: &'a Table) -> Result<Judge<'a>, Refusal> {
-        table.check()?;
+        table.check_to_judge()?;
         Ok(Judge::of_accepted(table))
     }
 
-    /// The same for a table that has been checked.
+    /// The same for a table that has been checked to be judged.
     pub fn of_accepted(table: &'a Table) -> Judge<'a> {
+        assert!(!table.salvaged(), "a salvaged table is never judged");
         Judge { tasks: table.tasks(), delays: Delays::new(table) }
     }
 

@@ -12,6 +12,7 @@ pub mod gen;
 pub mod judge;
 pub mod listing;
 pub mod refusal;
+pub mod salvage;
 pub mod stops;
 pub mod table;
 

@@ -55,5 +55,7 @@ pub trait Library {
 
     fn worsens(&mut self, older: &[u8], newer: &[u8]) -> io::Result<u8>;
 
+    fn salvage(&mut self, file: &[u8], out: Lent<u8>) -> io::Result<u64>;
+
     fn reason(&mut self, number: u8, out: Lent<u8>) -> io::Result<usize>;
 }

@@ -8,7 +8,7 @@ use crate::table::{Table, TASKS};
 
 /// The whole listing, each line ended.
 pub fn listing(bytes: &[u8]) -> String {
-    match file::read(bytes) {
+    match file::read_to_judge(bytes) {
         Ok(table) => lines(&table, &Judge::of_accepted(&table).all(&[]).expect("a fresh judgement is never refused")),
         Err(refusal) => format!("refused {}\n", refusal.number),
     }

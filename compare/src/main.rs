@@ -14,14 +14,16 @@ mod ffi;
 mod library;
 mod pairs;
 mod run_cases;
+mod salvage_cases;
 mod served;
 
+use std::collections::BTreeMap;
 use std::env;
 use std::error::Error;
 use std::process::ExitCode;
 
 use compare_model::answers::SHORT_OUTPUT;
-use comparer::{Comparer, Tally, Verdicts};
+use comparer::{Comparer, Salvages, Tally, Verdicts};
 use library::Library;
 
 fn main() -> Result<ExitCode, Box<dyn Error>> {
@@ -41,7 +43,7 @@ fn check(seed: u64, count: u64, serve: &[String]) -> Result<ExitCode, Box<dyn Er
         return Ok(ExitCode::FAILURE);
     }
     println!("{}", summary(seed, count, &on.tally));
-    if let Some(lack) = lack(&on.tally).filter(|_| count > 0) {
+    if let Some(lack) = lack(&on.tally, count).filter(|_| count > 0) {
         println!("compare: {lack}, so that this run shows too little");
         return Ok(ExitCode::FAILURE);
     }
@@ -52,7 +54,7 @@ fn summary(seed: u64, count: u64, tally: &Tally) -> String {
     format!(
         "compare: {} calls agree (seed {seed}, {count} random tables): {} accepted, {} refused; {} files whole and yet refused; tasks of DRAM tables {}, \
          of bus tables {}, at most {} rounds; {} listings, {} too long for their room; {} records; \
-         {} pairs of files, {} of them worsened",
+         {} pairs of files, {} of them worsened; {}",
         tally.calls,
         tally.accepted,
         tally.refused.values().sum::<u64>(),
@@ -64,7 +66,20 @@ fn summary(seed: u64, count: u64, tally: &Tally) -> String {
         tally.too_short,
         tally.records,
         tally.pairs,
-        tally.worsened
+        tally.worsened,
+        salvages(&tally.salvages)
+    )
+}
+
+fn salvages(of: &Salvages) -> String {
+    format!(
+        "files salvaged: {} with all records, {} with some, {} of both not for the first time, {} refused; {} new files followed, {} salvaged ones not judged",
+        of.all_kept,
+        of.stopped,
+        of.again,
+        of.refused.values().sum::<u64>(),
+        of.followed,
+        of.unjudged
     )
 }
 
@@ -72,11 +87,11 @@ fn verdicts(of: &Verdicts) -> String {
     format!("{} by request, {} by job, {} missed", of.by_request, of.by_job, of.misses)
 }
 
-/// What a run has to meet and this one did not.
-fn lack(tally: &Tally) -> Option<String> {
-    let never_met = never_met(tally);
-    if !never_met.is_empty() {
-        return Some(format!("refusals {never_met:?} were never met"));
+/// What a run of so many random tables has to meet and this one did not.
+fn lack(tally: &Tally, count: u64) -> Option<String> {
+    let refusals = (1..=14).chain([16, 18, SHORT_OUTPUT.into()]);
+    if let Some(lack) = never_met(refusals, &tally.refused).or_else(|| salvages_lack(&tally.salvages, count)) {
+        return Some(lack);
     }
     if tally.only_whole == 0 {
         return Some("no file was whole and yet refused".to_owned());
@@ -90,9 +105,19 @@ fn lack(tally: &Tally) -> Option<String> {
     Some(format!("tasks of {name} tables were {}", verdicts(of)))
 }
 
-/// The refusals that the functions can give and that no case met.
-fn never_met(tally: &Tally) -> Vec<u16> {
-    (1..=14).chain([16, SHORT_OUTPUT.into()]).filter(|number| !tally.refused.contains_key(number)).collect()
+/// The same of its salvages. Each random table is salvaged too.
+fn salvages_lack(of: &Salvages, count: u64) -> Option<String> {
+    if let Some(never) = never_met([5, 6, 7, 8, 15, 16, 17, 19], &of.refused) {
+        return Some(format!("of a salvage {never}"));
+    }
+    let too_few = of.all_kept.min(of.stopped).min(of.again) < 1000 || of.followed < 40;
+    (too_few || of.unjudged < of.followed + count).then(|| salvages(of))
+}
+
+/// Those of the refusals, which the functions can give, that no case met.
+fn never_met(refusals: impl IntoIterator<Item = u16>, met: &BTreeMap<u16, u64>) -> Option<String> {
+    let never: Vec<u16> = refusals.into_iter().filter(|number| !met.contains_key(number)).collect();
+    (!never.is_empty()).then(|| format!("refusals {never:?} were never met"))
 }
 
 /// The served library where a command is given, else the linked one.

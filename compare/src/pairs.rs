@@ -100,16 +100,16 @@ pub fn reasons(on: &mut Comparer) -> Outcome {
     let (mut refusing, mut others) = (BTreeSet::new(), BTreeSet::new());
     for number in 0..=u8::MAX {
         let text = on.reason(number)?;
-        let refuses = (1..=16).contains(&number) || number == SHORT_OUTPUT;
+        let refuses = (1..=19).contains(&number) || number == SHORT_OUTPUT;
         if refuses { &mut refusing } else { &mut others }.insert(text);
     }
     let own = refusing.difference(&others).count();
-    if own == 17 {
+    if own == 20 {
         return Ok(());
     }
     Err(Difference::of(
-        "ryb_reason of 1 to 16 and 255".to_owned(),
+        "ryb_reason of 1 to 19 and 255".to_owned(),
         format!("{own} texts of their own"),
-        "17 texts of their own".to_owned(),
+        "20 texts of their own".to_owned(),
     ))
 }

@@ -107,6 +107,10 @@ impl Library for Served {
         Ok(self.call(b'w', 0, input, Outputs::bytes(Lent::nothing()))? as u8)
     }
 
+    fn salvage(&mut self, file: &[u8], out: Lent<u8>) -> io::Result<u64> {
+        self.call(b's', 0, Inputs::file(file), Outputs::bytes(out))
+    }
+
     fn reason(&mut self, number: u8, out: Lent<u8>) -> io::Result<usize> {
         Ok(self.call(b'm', number, Inputs::file(&[]), Outputs::bytes(out))? as usize)
     }

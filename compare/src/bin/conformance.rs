@@ -12,6 +12,7 @@ use compare_model::file::{self, part};
 use compare_model::judge::{Answer, By, Judge, Verdict};
 use compare_model::listing::{lines, listing, name};
 use compare_model::refusal::Refusal;
+use compare_model::salvage::{salvage, Salvaged};
 use compare_model::table::{Table, Task, FIGURES, TASKS};
 
 /// Where the sets and the tasks are in a raw table: after the counts, the timing, tRFC and tREFI.
@@ -67,7 +68,8 @@ fn answer(letter: char, payload: &[u8]) -> String {
         'H' => line(file::whole(payload).map(|()| "whole".to_owned())),
         'R' => line(reading(payload)),
         'V' => line(file::view(&payload[1..], payload[0]).map(|part| format!("part {}", hex(part)))),
-        'W' => writing(usize::from(u16::from_le_bytes(part(payload, 0))), &raw(&payload[2..])),
+        'W' => into_room(payload, |out, bytes| writing(out, &raw(bytes))),
+        'S' => into_room(payload, salvaging),
         'J' => line(judge_one(payload[0], u64::from_le_bytes(part(payload, 1)), &raw(&payload[9..]))),
         'A' => fields(judge_all(&payload[..8 * TASKS], &raw(&payload[8 * TASKS..]))),
         'K' => fields(judge_carried(&raw(payload), &raw(&payload[RAW..]))),
@@ -93,14 +95,28 @@ fn reading(bytes: &[u8]) -> Result<String, Refusal> {
     Ok(format!("accepted {length} {}", if &out[..length] == bytes { "same" } else { "differs" }))
 }
 
-fn writing(room: usize, table: &Table) -> String {
+/// What is said of an operation that writes to as much room as the payload's first two bytes say, and what the whole room weighs then.
+fn into_room(payload: &[u8], operation: impl Fn(&mut [u8], &[u8]) -> String) -> String {
+    let (room, payload) = payload.split_at(2);
     let mut out = [FILLER; ROOM];
-    let written = match file::write(table, &mut out[..room]) {
+    let room = usize::from(u16::from_le_bytes(part(room, 0))).min(ROOM);
+    let said = operation(&mut out[..room], payload);
+    let weight: u64 = out.iter().zip(1..).map(|(&byte, place)| u64::from(byte) * place).sum();
+    format!("{said} {weight}\n")
+}
+
+fn writing(out: &mut [u8], table: &Table) -> String {
+    match file::write(table, out) {
         Ok(length) => format!("written {length}"),
         Err(refusal) => refused(refusal),
-    };
-    let weight: u64 = out.iter().zip(1..).map(|(&byte, place)| u64::from(byte) * place).sum();
-    format!("{written} {weight}\n")
+    }
+}
+
+fn salvaging(out: &mut [u8], bytes: &[u8]) -> String {
+    match salvage(bytes, out) {
+        Ok(Salvaged { promised, kept, stopped, length }) => format!("salvaged {length} {promised} {kept} {stopped}"),
+        Err(refusal) => format!("{} 0 0 0", refused(refusal)),
+    }
 }
 
 fn judge_one(number: u8, start: u64, table: &Table) -> Result<String, Refusal> {
@@ -118,7 +134,7 @@ fn all(starts: &[u8], table: &Table) -> Result<[Answer; TASKS], Refusal> {
 
 /// A table that is passed directly, listed: where only its starts are refused, with misses in 0 rounds.
 fn list_raw(starts: &[u8], table: &Table) -> String {
-    match table.check() {
+    match table.check_to_judge() {
         Ok(()) => lines(table, &all(starts, table).unwrap_or([Answer::default(); TASKS])),
         Err(refusal) => format!("refused {}\n", refusal.number),
     }
@@ -132,8 +148,8 @@ fn judge_all(starts: &[u8], table: &Table) -> Result<Headed, Refusal> {
 }
 
 fn judge_carried(older: &Table, newer: &Table) -> Result<Headed, Refusal> {
-    older.check()?;
-    newer.check()?;
+    older.check_to_judge()?;
+    newer.check_to_judge()?;
     let head = if carry::worsens(older, newer) { "carried" } else { "fresh" };
     Ok((head, carry::answers(older, newer)))
 }

@@ -1,3 +1,3 @@
 -- The laws that the functions' proofs cite.
---     Links    the order of refusals before a judgement of one task
+--     Links    the order of refusals before a judgement
 pub mod Links

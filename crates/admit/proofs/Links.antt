@@ -1,4 +1,4 @@
--- The order of refusals before a judgement of one task, link by link. Assumes nothing.
+-- The order of refusals before every judgement, and before one of one task, link by link. Assumes nothing.
 use mathlib.Core.Path.{_≡_}
 use mathlib.Core.Bool.{true, false}
 use Prim.Native.Nat.{ℕ, _≤_, _<_}
@@ -7,7 +7,22 @@ use borrow.Author.Tests.{lt-ltb, le-ltb, le-leb, lt-leb}
 use Rattle.rules.specs.declared.Table.{Table}
 use Rattle.rules.specs.Tasks.{latest, taskOf}
 use Rattle.rules.specs.Chain.{accepted, refused, isAccepted}
-use Rattle.rules.specs.Refusals.{checkJudged, askedFault, lateStart, checkStart}
+use Rattle.rules.specs.Kinds.{isSalvaged}
+use Rattle.rules.specs.Refusals.{checkTable, checkJudged, askedFault, lateStart, checkStart}
+
+module _ (t : Table) where
+  pub judged-refused : isAccepted (checkTable t) ≡ false → checkTable t ≡ checkJudged t
+  unfolding checkJudged
+  judged-refused e = simp e
+
+  module _ (passed : isAccepted (checkTable t) ≡ true) where
+    pub judged-salvaged : isSalvaged t ≡ true → refused 18 0 ≡ checkJudged t
+    unfolding checkJudged
+    judged-salvaged e = simp (passed, e)
+
+    pub judged-passes : isSalvaged t ≡ false → accepted ≡ checkJudged t
+    unfolding checkJudged
+    judged-passes e = simp (passed, e)
 
 module _ (t : Table) (k start : ℕ) where
   pub start-table : isAccepted (checkJudged t) ≡ false → checkJudged t ≡ checkStart t k start

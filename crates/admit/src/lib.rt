@@ -6,11 +6,18 @@ use rules::Picos;
 use rules::Refusal;
 use rules::Table;
 
-// The checks before every judgement.
+// The checks before every judgement: those of the table, then 18.
 pub fn table(t: Table) -> Refusal
     ensures { λ r. ⌜ r ≡ checkJudged t ⌝ }
 {
-    checks::check(t)
+    let refusal = checks::check(t);
+    if refusal.number != 0 {
+        return refusal;
+    }
+    if basics::says_salvaged(t.fourth) {
+        return refused(18, 0);
+    }
+    refused(0, 0)
 }
 
 // Those before a judgement of one task: then 12 and 13.

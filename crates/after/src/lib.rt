@@ -1,18 +1,18 @@
-// The answers of a newer table after an older one, where both are accepted.
+// The answers of a newer table after an older one, where both may be judged.
 ghost use mathlib.Core.Path.{_≡_};
 ghost use mathlib.Core.Bool.{true};
 ghost use Rattle.laws.specs.Idioms.{entry};
 ghost use Rattle.rules.specs.Chain.{isAccepted};
-ghost use Rattle.rules.specs.Refusals.{checkTable};
+ghost use Rattle.rules.specs.Refusals.{checkJudged};
 ghost use Rattle.rules.specs.Order.{worsens};
 ghost use Rattle.rules.specs.Operations.{answersFrom, rejudging, olderBounds};
 ghost use Rattle.facts.specs.Starts.{AllAllowed};
 use rules::Answer;
 use rules::Table;
 
-// The answers of an accepted table from starts none of which is refused.
+// The answers of a table that may be judged, from starts none of which is refused.
 fn answers(table: Table, starts: [u64; 32]) -> [Answer; 32]
-    requires { ⌜ isAccepted (checkTable table) ≡ true ⌝ }
+    requires { ⌜ isAccepted (checkJudged table) ≡ true ⌝ }
     requires { ⌜ AllAllowed table starts ⌝ }
     ensures { λ r. ⌜ r ≡ answersFrom table (entry 0 starts) ⌝ }
 {
@@ -23,7 +23,7 @@ fn answers(table: Table, starts: [u64; 32]) -> [Answer; 32]
 
 // RULES 6.5: the starts that the older table gives.
 fn older_starts(older: Table) -> [u64; 32]
-    requires { ⌜ isAccepted (checkTable older) ≡ true ⌝ }
+    requires { ⌜ isAccepted (checkJudged older) ≡ true ⌝ }
     ensures { λ r. ⌜ r ≡ olderBounds older ⌝ }
 {
     let fresh = [0u64; 32];
@@ -39,10 +39,10 @@ fn older_starts(older: Table) -> [u64; 32]
     starts
 }
 
-// The answers of two accepted tables: each task from its older bound where the newer table is the older one worsened, else fresh.
+// The answers of two tables that may be judged: each task from its older bound where the newer table is the older one worsened, else fresh.
 pub fn answers_after(older: Table, newer: Table, carried: bool) -> [Answer; 32]
-    requires { ⌜ isAccepted (checkTable older) ≡ true ⌝ }
-    requires { ⌜ isAccepted (checkTable newer) ≡ true ⌝ }
+    requires { ⌜ isAccepted (checkJudged older) ≡ true ⌝ }
+    requires { ⌜ isAccepted (checkJudged newer) ≡ true ⌝ }
     requires { ⌜ carried ≡ worsens older newer ⌝ }
     ensures { λ r. ⌜ r ≡ rejudging older newer .answers ⌝ }
 {

@@ -2,7 +2,7 @@
 ghost use mathlib.Core.Path.{_≡_};
 ghost use Prim.Native.Nat.{max};
 ghost use Rattle.rules.specs.Chain.{refused};
-ghost use Rattle.rules.specs.Kinds.{saysBus};
+ghost use Rattle.rules.specs.Kinds.{saysBus, saysSalvaged};
 use rules::Refusal;
 
 // RULES 9.1; 0, 0 where nothing is refused.
@@ -17,6 +17,13 @@ pub fn says_bus(fourth: u8) -> bool
     ensures { λ r. ⌜ r ≡ saysBus fourth ⌝ }
 {
     fourth % 2 == 1
+}
+
+// RULES 2.1: a table with this fourth byte is salvaged, and so is not judged.
+pub fn says_salvaged(fourth: u8) -> bool
+    ensures { λ r. ⌜ r ≡ saysSalvaged fourth ⌝ }
+{
+    fourth / 2 % 2 == 1
 }
 
 pub fn most(a: u64, b: u64) -> u64

@@ -11,11 +11,11 @@ use Rattle.rules.specs.declared.Refusal.{Refusal}
 use Rattle.rules.specs.Chain.{_orElse_, isAccepted}
 use Rattle.rules.specs.Listing.{tableLines, refusedLine, listing}
 use Rattle.rules.specs.File.{formIn, coresIn, tasksIn, decode}
-use Rattle.rules.specs.Operations.{checkFile, reading, checkView, checkBoth, isCarried, rejudging}
+use Rattle.rules.specs.Operations.{checkFile, checkToJudge, readToJudge, checkView, checkBoth, isCarried, rejudging}
 use Rattle.facts.proofs.Chain.{both-accepted}
 use Rattle.facts.proofs.Accepted.{sound}
 use Rattle.facts.proofs.Reading.{decoded-accepted}
-use Rattle.facts.proofs.Starts.{accepted-judged}
+use Rattle.facts.proofs.ToJudge.{judged-table}
 use Rattle.places.proofs.Places.{sets-limit, after-sets}
 use Rattle.plain.specs.Codes.{codeOf}
 use Rattle.stored.specs.Stored.{checkOutputs}
@@ -41,8 +41,8 @@ module _ (older newer bounds rounds by : List ℕ) where
   pub carried-zero : isAccepted (checkCarry older newer bounds rounds by) ≡ true → carryCode (carryRefusal older newer bounds rounds by) ≡ 0
   unfolding carryRefusal checkCarry checkFiles faultyFile
   carried-zero e =
-      let files = both-accepted (checkFile older orElse checkFile newer) (checkOutputs (tasksIn newer) bounds rounds by) e in
-      let (was, is) = both-accepted (checkFile older) (checkFile newer) (files .0) in
+      let files = both-accepted (checkToJudge older orElse checkToJudge newer) (checkOutputs (tasksIn newer) bounds rounds by) e in
+      let (was, is) = both-accepted (checkToJudge older) (checkToJudge newer) (files .0) in
       let outputs = files .1 in
       simp (was, is, outputs)
 
@@ -60,9 +60,9 @@ pub worsens-carried : (older newer : List ℕ) → isAccepted (checkFiles older 
     → filesWorsen older newer ≡ rejudging (decode older) (decode newer) .carried
 unfolding filesWorsen checkFiles rejudging isCarried checkBoth
 worsens-carried older newer e =
-    let (was, is) = both-accepted (checkFile older) (checkFile newer) e in
-    let old = accepted-judged (decode older) (decoded-accepted older was) in
-    let new = accepted-judged (decode newer) (decoded-accepted newer is) in
+    let (was, is) = both-accepted (checkToJudge older) (checkToJudge newer) e in
+    let old = judged-table older was in
+    let new = judged-table newer is in
     simp (was, is, old, new)
 
 -- ryb_tasks: the file is refused, as an accepted one has a task
@@ -83,10 +83,10 @@ zero-no-record s k e = go (ℕ-discrete (checkView s k .number) 0)
     go (no refused) = ne-eqb _ _ refused
 
 -- ryb_list: the listing does not fit, as none is empty
-listed-some : (s : List ℕ) (b : Bool) → isAccepted (reading s .refusal) ≡ b → 1 ≤ length (listing s)
+listed-some : (s : List ℕ) (b : Bool) → isAccepted (readToJudge s .refusal) ≡ b → 1 ≤ length (listing s)
 unfolding listing tableLines refusedLine
 listed-some s true e = rw e (suc-le-suc zero-le)
 listed-some s false e = rw e (suc-le-suc zero-le)
 
 pub listing-some : (s : List ℕ) → 1 ≤ length (listing s)
-listing-some s = listed-some s (isAccepted (reading s .refusal)) refl
+listing-some s = listed-some s (isAccepted (readToJudge s .refusal)) refl

@@ -22,7 +22,7 @@ fn counts_fault(cores: u8, partitions: u8, tasks: u8, fourth: u8) -> bool
     if outside(1, 32, tasks as u64) {
         return true;
     }
-    if 1 < fourth {
+    if 3 < fourth {
         return true;
     }
     false

@@ -8,7 +8,7 @@ ghost use Rattle.facts.specs.Sound.{Sound};
 ghost use Rattle.rules.specs.Tasks as Tasks;
 ghost use Rattle.rules.specs.Tasks.{taskOf};
 ghost use Rattle.rules.specs.Chain.{isAccepted};
-ghost use Rattle.rules.specs.Refusals.{checkTable};
+ghost use Rattle.rules.specs.Refusals.{checkJudged};
 ghost use Rattle.rules.specs.Operations.{judgeAll};
 ghost use Rattle.groups.specs.Grouped.{PlacesBelow};
 ghost use Rattle.groups.specs.Columns.{PerTask, Columns};
@@ -132,9 +132,9 @@ pub fn judge_task(table: Table, k: u8, start: u64) -> Climbed
     )
 }
 
-// Every task of an accepted table: 13 with the first late start, 14 with the first whose start F lowers, or the answers.
+// Every task of a table that may be judged: 13 with the first late start, 14 with the first whose start F lowers, or the answers.
 pub fn judge_tasks(table: Table, starts: [u64; 32]) -> AllJudged
-    requires { ⌜ isAccepted (checkTable table) ≡ true ⌝ }
+    requires { ⌜ isAccepted (checkJudged table) ≡ true ⌝ }
     ensures { λ r. ⌜ r ≡ judgeAll table starts ⌝ }
 {
     let mut core = [0u8; 32];

@@ -44,16 +44,16 @@ module _ (t : Table) (passed : isAccepted (checkTable t) ≡ true) where
   first-links : (isAccepted counts-link ≡ true) × (isAccepted row-link ≡ true)
   first-links = both-accepted counts-link row-link (board-links .0)
 
-  counts-hold : within 1 8 (t .cores) && within 1 16 (t .partitions) && within 1 32 (t .tasks) && ltb (t .fourth) 2 ≡ true
+  counts-hold : within 1 8 (t .cores) && within 1 16 (t .partitions) && within 1 32 (t .tasks) && ltb (t .fourth) 4 ≡ true
   unfolding counts-link countsFault fourthAllowed
   counts-hold = not-false _ (no-fault 4 0 (countsFault (t .cores) (t .partitions) (t .tasks) (t .fourth)) (first-links .0))
 
-  counts : (Within 1 8 (t .cores) × Within 1 16 (t .partitions)) × (Within 1 32 (t .tasks) × (t .fourth < 2))
+  counts : (Within 1 8 (t .cores) × Within 1 16 (t .partitions)) × (Within 1 32 (t .tasks) × (t .fourth < 4))
   counts =
       let fourth = and-both _ _ counts-hold in
       let tasks = and-both _ _ (fourth .0) in
       let rest = and-both _ _ (tasks .0) in
-      ((inside 1 8 _ (rest .0), inside 1 16 _ (rest .1)), (inside 1 32 _ (tasks .1), ltb-true (t .fourth) 2 (fourth .1)))
+      ((inside 1 8 _ (rest .0), inside 1 16 _ (rest .1)), (inside 1 32 _ (tasks .1), ltb-true (t .fourth) 4 (fourth .1)))
 
   module _ (p : ℕ) (low : 1 ≤ p) (high : p ≤ t .cores) where
     set-clear : (eqb (setOf t p) 0 ≡ false) × (not (ltb (setOf t p) (2 ^ t .partitions)) ≡ false)

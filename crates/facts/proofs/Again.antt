@@ -16,6 +16,7 @@ use Rattle.rules.specs.Operations.{answersFrom, fresh, verdicts, olderBound, ch
 use Rattle.facts.proofs.Chain.{both-accepted}
 use Rattle.laws.specs.Idioms.{upTo}
 use Rattle.laws.proofs.Members.{member-upTo}
+use Rattle.facts.proofs.Starts.{judged-accepted}
 use Rattle.facts.proofs.Worsened.{worsened}
 use Rattle.facts.proofs.Points.{fresh-right, carries}
 
@@ -51,11 +52,13 @@ module _ (older newer : Table) (was : isAccepted (checkTable older) ≡ true) (i
 
 pub rejudged-verdicts : (older newer : Table) → isAccepted (checkBoth older newer) ≡ true
     → verdicts (rejudging older newer .answers) ≡ verdicts (answersFrom newer fresh)
-unfolding rejudging checkBoth checkJudged
+unfolding rejudging checkBoth
 rejudged-verdicts older newer both = rw both (go (worsens older newer) refl)
   where
     accepted-two : (isAccepted (checkTable older) ≡ true) × (isAccepted (checkTable newer) ≡ true)
-    accepted-two = both-accepted (checkTable older) (checkTable newer) both
+    accepted-two =
+        let (was, is) = both-accepted (checkJudged older) (checkJudged newer) both in
+        (judged-accepted older was, judged-accepted newer is)
 
     go : (b : Bool) → worsens older newer ≡ b
         → verdicts (cond b (answersFrom newer (olderBound older)) (answersFrom newer fresh)) ≡ verdicts (answersFrom newer fresh)

@@ -22,22 +22,22 @@ use Rattle.facts.proofs.Accepted.{sound}
 use Rattle.facts.proofs.Chain.{both-accepted}
 use Rattle.facts.proofs.First.{first-none, none-first}
 use Rattle.facts.proofs.Instance.{equation-of, lowest-fits}
-use Rattle.facts.proofs.Starts.{Judgeable, judged-accepted, accepted-judged, passes-allowed, allowed-passes}
+use Rattle.facts.proofs.Starts.{Judgeable, judged-accepted, passes-allowed, allowed-passes}
 use Rattle.facts.proofs.LentStarts.{answers-same}
-use Rattle.facts.proofs.Points.{carried-judgeable}
+use Rattle.facts.proofs.Points.{carries}
 use Rattle.facts.proofs.Worsened.{worsened}
 
 -- ---- where none is refused, all are answered
 
-module _ (t : Table) (passed : isAccepted (checkTable t) ≡ true) (starts : List ℕ) (all : AllAllowed t starts) where
+module _ (t : Table) (passed : isAccepted (checkJudged t) ≡ true) (starts : List ℕ) (all : AllAllowed t starts) where
   passes : (k : ℕ) → 1 ≤ k → k ≤ t .tasks → (lateStart t k (entry 0 starts k) ≡ false) × (highStart t k (entry 0 starts k) ≡ false)
-  passes k low high = allowed-passes t k (entry 0 starts k) (lowest-fits t passed k low high) (all k low high)
+  passes k low high = allowed-passes t k (entry 0 starts k) (lowest-fits t (judged-accepted t passed) k low high) (all k low high)
 
   pub none-refused : checkAll t (entry 0 starts) ≡ accepted
   unfolding checkAll
   none-refused =
       simp (
-        accepted-judged t passed,
+        passed,
         first-none 13 (λ k. lateStart t k (entry 0 starts k)) (t .tasks) (λ k low high. passes k low high .0),
         first-none 14 (λ k. highStart t k (entry 0 starts k)) (t .tasks) (λ k low high. passes k low high .1),
       )
@@ -99,7 +99,7 @@ module _ (older newer : Table) (was : isAccepted (checkTable older) ≡ true) (i
 
   pub all-carried : AllAllowed newer (olderBounds older)
   all-carried k low high =
-      rw (older-start older was k low (as-many high)) (carried-judgeable older newer was is worse k low (as-many high) .allowed)
+      rw (older-start older was k low (as-many high)) (carries older newer was is worse k low (as-many high) .allowed)
 
   pub carried-answers : answersFrom newer (entry 0 (olderBounds older)) ≡ answersFrom newer (olderBound older)
   carried-answers = answers-same newer _ _ (λ k low high. older-start older was k low (as-many high))

@@ -1,5 +1,6 @@
 -- The laws that other proofs cite, and what makes the theory of `equation` hold of an accepted table.
 --     Reading     what an accepted file is known to be
+--     ToJudge     a file that is to be judged
 --     First       the first place at fault
 --     Chain       a chain of refusals that gives none
 --     Rows        the figures of an accepted row
@@ -27,6 +28,7 @@ pub mod Chain
 pub mod Rows
 pub mod Accepted
 pub mod Reading
+pub mod ToJudge
 pub mod SoundTasks
 pub mod Weights
 pub mod Releases

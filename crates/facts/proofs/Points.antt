@@ -59,10 +59,9 @@ module _ (older newer : Table) (was : isAccepted (checkTable older) ≡ true) (i
       (case-worse older newer was is worse k low high))
 
   -- the start is not refused
-  pub carried-judgeable : Judgeable newer k (olderBound older k)
-  unfolding checkJudged
-  carried-judgeable = record {
-    judged = is;
+  pub carried-judgeable : isAccepted (checkJudged newer) ≡ true → Judgeable newer k (olderBound older k)
+  carried-judgeable judged = record {
+    judged = judged;
     number = record { low = low; high = number-stays older newer was is worse k low high };
     allowed = carries .allowed;
   }

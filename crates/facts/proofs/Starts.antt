@@ -5,10 +5,13 @@ use Prim.Native.Nat.{ℕ, _≤_}
 use borrow.Author.Tests.{ltb-false, le-ltb, le-leb, not-false}
 use Rattle.rules.specs.declared.Table.{Table}
 use Rattle.rules.specs.Tasks.{latest, taskOf}
+use Rattle.rules.specs.Kinds.{isSalvaged}
 use Rattle.rules.specs.Judgement.{lowest}
 use Rattle.rules.specs.Chain.{isAccepted, _orElse_, given}
 use Rattle.rules.specs.Refusals.{checkTable, askedFault, lateStart, highStart, checkJudged, checkStart, checkOne}
+use Rattle.facts.specs.Sound.{Sound}
 use Rattle.facts.specs.Starts.{AllowedStart}
+use Rattle.facts.proofs.Accepted.{sound}
 use Rattle.facts.proofs.Chain.{both-accepted, no-fault}
 use Rattle.laws.specs.Idioms.{Within}
 use Rattle.laws.proofs.Tests.{inside}
@@ -37,12 +40,10 @@ asked-within t k e = inside 1 (t .tasks) k (not-false _ e)
 -- the checks before a judgement begin with those of the table
 pub judged-accepted : (t : Table) → isAccepted (checkJudged t) ≡ true → isAccepted (checkTable t) ≡ true
 unfolding checkJudged
-judged-accepted t passed = passed
+judged-accepted t passed = both-accepted (checkTable t) (given 18 0 (isSalvaged t)) passed .0
 
--- and today nothing follows them
-pub accepted-judged : (t : Table) → isAccepted (checkTable t) ≡ true → isAccepted (checkJudged t) ≡ true
-unfolding checkJudged
-accepted-judged t passed = passed
+pub judged-sound : (t : Table) → isAccepted (checkJudged t) ≡ true → Sound t
+judged-sound t passed = sound t (judged-accepted t passed)
 
 pub one-judgeable : (t : Table) (k start : ℕ) → isAccepted (checkOne t k start) ≡ true → Judgeable t k start
 unfolding checkOne checkStart

@@ -39,7 +39,7 @@ pub record Sound (t : Table) : Type 0 where
   pub cores-in : Within 1 8 (t .cores)
   pub partitions-in : Within 1 16 (t .partitions)
   pub tasks-in : Within 1 32 (t .tasks)
-  pub fourth-low : t .fourth < 2
+  pub fourth-low : t .fourth < 4
   pub figure-high : (k : ℕ) → 1 ≤ k → k ≤ 15 → entry 0 (t .timing) k ≤ 65535
   pub row : isBus t ≡ false → SoundRow (t .timing)
   pub slot-in : isBus t ≡ true → Within 1 65535 (slot t .0)

@@ -7,13 +7,13 @@ use native.Mathlib.Omega.{arith}
 use lib.ListN.{length, set, take, drop}
 use lib.Seq.{sets}
 use Rattle.rules.specs.Tasks.{noTask, taskOf}
-use Rattle.rules.specs.File.{recordSize, recordAt, recordIn, recordTask, coresIn, tasksIn, formIn, decode}
+use Rattle.rules.specs.File.{recordsAt, recordSize, recordAt, recordIn, recordTask, coresIn, tasksIn, formIn, decode}
 use Rattle.laws.specs.Idioms.{numberIn, part}
 use Rattle.laws.proofs.Places.{place-of}
 use Rattle.laws.proofs.Parts.{part-length}
 use Rattle.laws.proofs.Runs.{map-below-next, length-map-from, sets-next}
-use Rattle.places.proofs.Places.{record-limit}
-use Rattle.fields.specs.Places.{figuresIn}
+use Rattle.places.proofs.Places.{record-limit, records-are, records-limit, record-within, after-sets, length-is}
+use Rattle.fields.specs.Places.{Sized, figuresIn}
 
 module _ (s : List ℕ) where
   pub figures-length : (at n : ℕ) → length (figuresIn s at n) ≡ n
@@ -32,6 +32,20 @@ module _ (s : List ℕ) where
   pub record-long : (k : ℕ) → recordAt (formIn s) (coresIn s) k + recordSize (formIn s) ≤ length s → 29 ≤ length (recordIn s k)
   unfolding recordIn
   record-long k h = rw (part-length s (recordAt (formIn s) (coresIn s) k) (recordSize (formIn s)) h) (record-limit (formIn s) .0)
+
+  -- before the end of the sets stand the counts and the timing figures
+  pub header-there : recordsAt (formIn s) (coresIn s) ≤ length s → 34 ≤ length s
+  header-there h = omega (arith, records-limit (formIn s) (coresIn s))
+
+  -- the sets and the records of a file that is as long as its header says lie within it
+  pub records-end : Sized s → recordAt (formIn s) (coresIn s) (tasksIn s + 1) ≤ length s
+  records-end z = omega (arith, z .sized, length-is (formIn s) (coresIn s) (tasksIn s))
+
+  pub record-ends : (i : ℕ) → i < tasksIn s → Sized s → recordAt (formIn s) (coresIn s) (i + 1) + recordSize (formIn s) ≤ length s
+  record-ends i here z = omega (arith, records-end z, record-within (formIn s) (coresIn s) i (tasksIn s) here)
+
+  pub sets-end : Sized s → recordsAt (formIn s) (coresIn s) ≤ length s
+  sets-end z = omega (arith, records-end z, records-are (formIn s) (coresIn s), after-sets (formIn s) (coresIn s) (tasksIn s + 1))
 
   -- a record is a task of the table
   pub task-is : (i : ℕ) → i < tasksIn s → recordTask (recordIn s (i + 1)) ≡ taskOf (decode s) (i + 1)

@@ -1,11 +1,11 @@
-// The figures and records of a file that is as long as its header says. What the bytes mean is in the rules, where they stand is `places`'.
+// The figures and records of a file that reaches so far. What the bytes mean is in the rules, where they stand is `places`'.
 
 ghost use mathlib.Core.Path.{_≡_};
 ghost use Prim.Native.Nat.{_+_, _*_, _≤_, _<_};
 ghost use lib.ListN.{length};
 ghost use lib.Seq.{sets};
 ghost use Rattle.rules.specs.Tasks.{taskOf};
-ghost use Rattle.rules.specs.File.{recordSize, recordAt, recordTask, recordIn, coresIn, tasksIn, formIn, decode};
+ghost use Rattle.rules.specs.File.{recordsAt, recordSize, recordAt, recordTask, recordIn, coresIn, tasksIn, formIn, decode};
 ghost use Rattle.fields.specs.Places.{Sized, figuresIn, setsOf};
 use rules::Picos;
 use rules::Task;
@@ -39,13 +39,22 @@ fn task_in(part: &[u8]) -> Task
     }
 }
 
-// The task in place i.
+// The task of the record in place i.
+pub fn record_task(file: &[u8], i: usize) -> Task
+    requires { ⌜ i ≤ 255 ⌝ }
+    requires { ⌜ recordAt (formIn (now file)) (coresIn (now file)) (i + 1) + recordSize (formIn (now file)) ≤ length (now file) ⌝ }
+    ensures { λ r. ⌜ r ≡ recordTask (recordIn (now (file .entry)) (i + 1)) ⌝ }
+{
+    task_in(record_in(file, i))
+}
+
+// The task in place i, of a file that is as long as its header says.
 pub fn task_at(file: &[u8], i: usize) -> Task
     requires { ⌜ i < tasksIn (now file) ⌝ }
     requires { ⌜ Sized (now file) ⌝ }
     ensures { λ r. ⌜ r ≡ taskOf (decode (now (file .entry))) (i + 1) ⌝ }
 {
-    task_in(record_in(file, i))
+    record_task(file, i)
 }
 
 // The n figures of two bytes from a place on.
@@ -72,10 +81,10 @@ pub fn row_in(file: &[u8]) -> [u16; 15]
     timing
 }
 
-// The sets of a whole file's cores, which have room in a table.
+// The sets of the cores, which have room in a table.
 pub fn sets_in(file: &[u8]) -> [u16; 8]
     requires { ⌜ coresIn (now file) ≤ 8 ⌝ }
-    requires { ⌜ Sized (now file) ⌝ }
+    requires { ⌜ recordsAt (formIn (now file)) (coresIn (now file)) ≤ length (now file) ⌝ }
     ensures { λ r. ⌜ r ≡ setsOf (now (file .entry)) ⌝ }
 {
     let mut sets = [0u16; 8];

@@ -1,32 +1,17 @@
 -- The two parts of reading, one refusal at a time, and what an accepted file is known to be. Assumes nothing.
-use mathlib.Core.Path.{_≡_, refl, sym}
+use mathlib.Core.Path.{_≡_, refl}
 use mathlib.Core.Bool.{true, false}
 use mathlib.Core.List.{List}
-use Prim.Native.Nat.{ℕ, _+_, _<_, _≤_}
-use lib.ListN.{set}
-use borrow.Author.Tests.{lt-leb}
-use Rattle.rules.specs.declared.Task.{Task}
-use Rattle.rules.specs.declared.Table.{Table}
+use Prim.Native.Nat.{ℕ, _≤_}
 use Rattle.rules.specs.declared.Read.{Read}
-use Rattle.rules.specs.Tasks.{noTask}
-use Rattle.rules.specs.Chain.{refused, isAccepted, _orElse_}
-use Rattle.rules.specs.Refusals.{countsFault, boardRefusal, checkBoard, checkTasks, checkTable}
-use Rattle.rules.specs.File.{coresIn, tasksIn, recordTask, recordIn, checkWhole, decode}
+use Rattle.rules.specs.Chain.{isAccepted, _orElse_}
+use Rattle.rules.specs.Refusals.{checkBoard, checkTasks, checkTable}
+use Rattle.rules.specs.File.{coresIn, tasksIn, checkWhole, decode}
 use Rattle.rules.specs.Operations.{readNothing, taking, reading, checkFile}
-use Rattle.laws.specs.Idioms.{filled}
-use Rattle.laws.proofs.Fill.{fill-step}
-use Rattle.laws.proofs.Tests.{and-false}
-use Rattle.laws.proofs.Runs.{map-upTo-next, length-map-from}
 use Rattle.facts.proofs.Accepted.{sound}
 use Rattle.facts.proofs.Reading.{file-whole, decoded-accepted}
 use Rattle.fields.specs.Places.{Sized}
-use Rattle.file.specs.Tasks.{tasksTo}
 use Rattle.arrival.proofs.Came.{whole}
-
--- more cores than a table has places for: 5 is given from the counts alone
-many-cores : (t : Table) → 8 < t .cores → checkTable t ≡ refused 5 0
-unfolding checkTable checkBoard boardRefusal countsFault
-many-cores t h = rw (lt-leb (t .cores) 8 h, and-false)
 
 module _ (s : List ℕ) where
   -- ---- the first part, then the second
@@ -49,18 +34,9 @@ module _ (s : List ℕ) where
 
   -- ---- the second part
 
-  pub counted-out : 8 < coresIn s → refused 5 0 ≡ checkTable (decode s)
-  unfolding decode
-  counted-out many = sym (many-cores (decode s) many)
-
   pub by-parts : checkBoard (decode s) orElse checkTasks (decode s) ≡ checkTable (decode s)
   unfolding checkTable
   by-parts = refl
-
-  pub task-next : (i : ℕ) → i < 32 → set (filled 32 noTask (tasksTo s i)) i (recordTask (recordIn s (i + 1))) ≡ filled 32 noTask (tasksTo s (i + 1))
-  task-next i h =
-      let f : ℕ → Task = λ k. recordTask (recordIn s k) in
-      rw (map-upTo-next f i) (fill-step 32 noTask (tasksTo s i) i (f (i + 1)) (length-map-from f i 1) h)
 
   pub nothing-taken : isAccepted (checkTable (decode s)) ≡ false → readNothing (checkTable (decode s)) ≡ taking s
   unfolding taking

@@ -1,40 +1,18 @@
 // Table files, read. Reading is two parts (RULES 7.4): did the file come whole, which is `arrival`'s; and its figures, which are taken out here. What the
-// bytes mean is in the rules; how figures and records are read is `fields`'.
+// bytes mean is in the rules; how figures and records are read is `fields`', and what they are together `contents`'.
 
 ghost use mathlib.Core.Path.{_≡_};
 ghost use mathlib.Core.Bool.{true};
-ghost use Prim.Native.Nat.{_≤_};
-ghost use Rattle.laws.specs.Idioms.{filled};
 ghost use Rattle.rules.specs.Chain.{isAccepted};
-ghost use Rattle.rules.specs.Tasks.{noTask};
-ghost use Rattle.rules.specs.File.{coresIn, tasksIn, checkWhole, decode};
-ghost use Rattle.rules.specs.Refusals.{checkBoard, checkTasks, checkTable};
+ghost use Rattle.rules.specs.File.{checkWhole, decode};
+ghost use Rattle.rules.specs.Refusals.{checkTasks, checkTable};
 ghost use Rattle.rules.specs.Operations.{readNothing, taking, reading, checkFile};
 ghost use Rattle.fields.specs.Places.{Sized};
-ghost use Rattle.file.specs.Tasks.{tasksTo};
 use rules::Read;
 use rules::Refusal;
 use rules::Table;
-use rules::Task;
 
 // ---- the second part: of a file that came whole. Nothing outside this crate can call these
-
-// 5 to 8 and 16.
-fn board_in(file: &[u8]) -> Refusal
-    requires { ⌜ coresIn (now file) ≤ 8 ⌝ }
-    requires { ⌜ Sized (now file) ⌝ }
-    ensures { λ r. ⌜ r ≡ checkBoard (decode (now (file .entry))) ⌝ }
-{
-    let sets = fields::sets_in(file);
-    checks::board_refusal(
-        file[0],
-        file[1],
-        file[2],
-        file[3],
-        fields::row_in(file),
-        &sets,
-    )
-}
 
 // 9 to 11.
 fn records_in(file: &[u8]) -> Refusal
@@ -53,61 +31,20 @@ fn records_in(file: &[u8]) -> Refusal
     tasks::told(seen)
 }
 
-// 5 to 11 and 16, from the bytes: no table is made. Sets that have no room in a table are refused by their count before they are looked at.
+// 5 to 11 and 16, from the bytes: no table is made.
 fn figures_refusal(file: &[u8]) -> Refusal
     requires { ⌜ isAccepted (checkWhole (now file)) ≡ true ⌝ }
     ensures { λ r. ⌜ r ≡ checkTable (decode (now (file .entry))) ⌝ }
 {
-    if 8 < file[0] {
-        return basics::refused(5, 0);
-    }
-    let board = board_in(file);
+    let board = contents::board(file);
     if board.number != 0 {
         return board;
     }
     records_in(file)
 }
 
-// The tasks, and no task in the other places.
-fn tasks(file: &[u8]) -> [Task; 32]
-    requires { ⌜ tasksIn (now file) ≤ 32 ⌝ }
-    requires { ⌜ Sized (now file) ⌝ }
-    ensures { λ r. ⌜ r ≡ filled 32 noTask (tasksTo (now (file .entry)) (tasksIn (now (file .entry)))) ⌝ }
-{
-    let n = places::size(file[2]);
-    let none = tasks::no_task();
-    let mut all = [none; 32];
-    let mut i: usize = 0;
-    while i < n {
-        let task = fields::task_at(file, i);
-        all[i] = task;
-        i += 1;
-    }
-    all
-}
-
-// The table, where its counts have room in one.
-fn table_in(file: &[u8]) -> Table
-    requires { ⌜ (coresIn (now file) ≤ 8) × (tasksIn (now file) ≤ 32) ⌝ }
-    requires { ⌜ Sized (now file) ⌝ }
-    ensures { λ r. ⌜ r ≡ decode (now (file .entry)) ⌝ }
-{
-    let timing = fields::row_in(file);
-    let sets = fields::sets_in(file);
-    let task = tasks(file);
-    Table {
-        cores: file[0],
-        partitions: file[1],
-        tasks: file[2],
-        fourth: file[3],
-        timing: timing,
-        sets: sets,
-        task: task,
-    }
-}
-
 // What a refused reading gives (RULES 9.2).
-fn read_nothing(refusal: Refusal) -> Read
+pub fn read_nothing(refusal: Refusal) -> Read
     ensures { λ r. ⌜ r ≡ readNothing refusal ⌝ }
 {
     let none = tasks::no_task();
@@ -136,7 +73,7 @@ fn take(file: &[u8]) -> Read
     if refusal.number != 0 {
         return read_nothing(refusal);
     }
-    let table = table_in(file);
+    let table = contents::table(file, file[3], file[2]);
     Read {
         refusal: refusal,
         table: table,

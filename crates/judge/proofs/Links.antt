@@ -14,8 +14,7 @@ use Rattle.facts.specs.Sound.{Sound}
 use Rattle.rules.specs.Refusals.{checkJudged, askedFault, lateStart, highStart, checkOne, checkAll, checkStart}
 use Rattle.rules.specs.Operations.{judgeOne, judgeAll}
 use Rattle.facts.proofs.Chain.{both-accepted, first-refuses, second-decides, no-fault}
-use Rattle.facts.proofs.Accepted.{sound}
-use Rattle.facts.proofs.Starts.{judged-accepted}
+use Rattle.facts.proofs.Starts.{judged-sound}
 use Rattle.laws.specs.Idioms.{entry, Within}
 use Rattle.laws.proofs.Tests.{inside}
 use Rattle.climb.specs.declared.Climbed.{Climbed}
@@ -35,7 +34,7 @@ module _ (t : Table) (k start : ℕ) (passed : isAccepted (checkStart t k start)
   first-links = both-accepted (checkJudged t) (given 12 0 (askedFault t k)) (start-links .0)
 
   pub start-sound : Sound t
-  start-sound = sound t (judged-accepted t (first-links .0))
+  start-sound = judged-sound t (first-links .0)
 
   pub start-within : Within 1 (t .tasks) k
   unfolding askedFault

@@ -10,7 +10,8 @@ use Rattle.rules.specs.Chain.{isAccepted}
 use Rattle.rules.specs.File.{tasksIn, decode}
 use Rattle.rules.specs.declared.Refusal.{Refusal}
 use Rattle.rules.specs.declared.AllJudged.{AllJudged}
-use Rattle.rules.specs.Operations.{checkFile, answersFrom, judgeAll}
+use Rattle.rules.specs.Operations.{checkToJudge, answersFrom, judgeAll}
+use Rattle.facts.proofs.ToJudge.{judged-file}
 use Rattle.file.proofs.Reading.{file-counts}
 use Rattle.facts.proofs.Chain.{passes, refuses, second-decides, stops, goes-on}
 use Rattle.judged.specs.JudgedFile.{checkJudging, checkJudgedFile, answersOf, JudgedFile}
@@ -26,14 +27,14 @@ module _ (s starts : List ℕ) where
   abbrev pub lentStarts : List ℕ
   lentStarts = filled 32 0 (take 32 starts)
 
-  module _ (file : isAccepted (checkFile s) ≡ true) where
+  module _ (file : isAccepted (checkToJudge s) ≡ true) where
     by-starts : checkJudging s starts ≡ judgeAll (decode s) starts .refusal
     unfolding checkJudging judgeAll
-    by-starts = second-decides (checkFile s) _ file
+    by-starts = second-decides (checkToJudge s) _ file
 
     lent-judged : judgeAll (decode s) lentStarts ≡ judgeAll (decode s) starts
     unfolding decode
-    lent-judged = lent-starts (decode s) starts (file-counts s file .1)
+    lent-judged = lent-starts (decode s) starts (file-counts s (judged-file s file) .1)
 
     as-judged : {r : AllJudged} → r ≡ judgeAll (decode s) lentStarts → r .refusal ≡ judgeAll (decode s) starts .refusal
     as-judged is = rw (is, lent-judged)
@@ -57,12 +58,12 @@ module _ (s starts : List ℕ) {bounds rounds by : List ℕ} where
       let decided = stops (checkJudging s starts) (checkOutputs (tasksIn s) bounds rounds by) is refused in
       (decided, unchanged (refuses decided refused))
 
-  pub file-refused : {r : Refusal} → r ≡ checkFile s → (r .number ≡ 0 → ⊥)
+  pub file-refused : {r : Refusal} → r ≡ checkToJudge s → (r .number ≡ 0 → ⊥)
       → (r ≡ checkJudgedFile s starts bounds rounds by) × JudgedFile s starts bounds rounds by bounds rounds by
   unfolding checkJudging
-  file-refused is refused = refused-leaves (stops (checkFile s) _ is refused) refused
+  file-refused is refused = refused-leaves (stops (checkToJudge s) _ is refused) refused
 
-  module _ (file : isAccepted (checkFile s) ≡ true) {r : AllJudged} (is : r ≡ judgeAll (decode s) (lentStarts s starts)) where
+  module _ (file : isAccepted (checkToJudge s) ≡ true) {r : AllJudged} (is : r ≡ judgeAll (decode s) (lentStarts s starts)) where
     pub start-refused : (r .refusal .number ≡ 0 → ⊥)
         → (r .refusal ≡ checkJudgedFile s starts bounds rounds by) × JudgedFile s starts bounds rounds by bounds rounds by
     start-refused refused = refused-leaves (decided s starts file is) refused

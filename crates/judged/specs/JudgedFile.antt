@@ -8,12 +8,12 @@ use Rattle.rules.specs.Judgement.{judge}
 use Rattle.rules.specs.Chain.{_orElse_}
 use Rattle.rules.specs.Refusals.{checkAll}
 use Rattle.rules.specs.File.{tasksIn, decode}
-use Rattle.rules.specs.Operations.{checkFile}
+use Rattle.rules.specs.Operations.{checkToJudge}
 use Rattle.stored.specs.Stored.{checkOutputs, Stored}
 
 -- a task that is given no start starts at 0, which is the entry beyond the list's end; starts beyond the tasks mean nothing (RULES 6.3)
 unfoldable pub checkJudging : List ℕ → List ℕ → Refusal
-checkJudging s starts = checkFile s orElse checkAll (decode s) (entry 0 starts)
+checkJudging s starts = checkToJudge s orElse checkAll (decode s) (entry 0 starts)
 
 -- the file's refusals, then those of the starts, then 255 where an output has fewer places than the file has tasks
 unfoldable pub checkJudgedFile : List ℕ → List ℕ → List ℕ → List ℕ → List ℕ → Refusal

@@ -7,7 +7,7 @@ use Rattle.rules.specs.declared.Table.{Table}
 use Rattle.rules.specs.declared.Refusal.{Refusal}
 use Rattle.rules.specs.declared.Answer.{Answer}
 use Rattle.rules.specs.Chain.{isAccepted}
-use Rattle.rules.specs.Refusals.{checkTable}
+use Rattle.rules.specs.Refusals.{checkJudged}
 use Rattle.rules.specs.Listing.{tableLines, tableText, refusedLine}
 use Rattle.laws.specs.Idioms.{text}
 use Rattle.rows.specs.Rows.{rows}
@@ -19,13 +19,13 @@ unfolding tableLines rows last
 table-lines t answers = refl
 
 -- what is listed for a table, by what its check gave
-module _ (t : Table) (r : Refusal) (checked : r ≡ checkTable t) where
+module _ (t : Table) (r : Refusal) (checked : r ≡ checkJudged t) where
   pub text-refused : (r .number ≡ 0 → ⊥) → (answers : List Answer) → tableText t answers ≡ refusedLine (r .number)
   unfolding tableText
   text-refused h answers = rw (← checked, ne-eqb (r .number) 0 h)
 
   module _ (h : r .number ≡ 0) where
-    pub text-accepted : isAccepted (checkTable t) ≡ true
+    pub text-accepted : isAccepted (checkJudged t) ≡ true
     text-accepted = rw checked at (eq-eqb (r .number) 0 h)
 
     pub text-whole : (answers : List Answer) → tableText t answers ≡ tableLines t answers

@@ -12,7 +12,7 @@ ghost use mathlib.Core.Bool.{true};
 ghost use Prim.Native.Nat.{_≤_};
 ghost use lib.ListN.{length, replicate};
 ghost use Rattle.rules.specs.Chain.{isAccepted};
-ghost use Rattle.rules.specs.Refusals.{checkTable};
+ghost use Rattle.rules.specs.Refusals.{checkJudged};
 ghost use Rattle.rules.specs.Operations.{judgeAll};
 ghost use Rattle.rules.specs.Listing.{tableLines, listing, tableText, refusedLine};
 ghost use Rattle.text.specs.Put.{Put, Given};
@@ -30,9 +30,9 @@ fn put_table(buf: &mut [u8], t: Table, answers: [Answer; 32]) -> usize
     put_last(buf, end, first_miss(n, answers))
 }
 
-// The lines of a table that was accepted, as `lines` gives them.
+// The lines of a table that may be judged, as `lines` gives them.
 fn accepted_lines(t: Table, answers: [Answer; 32], out: &mut [u8]) -> usize
-    requires { ⌜ isAccepted (checkTable t) ≡ true ⌝ }
+    requires { ⌜ isAccepted (checkJudged t) ≡ true ⌝ }
     ensures { λ r. ⌜ Given (tableLines t answers) (now (out .entry)) r (now (out .exit)) ⌝ }
     ensures { λ _. ⌜ length (tableLines t answers) ≤ 3266 ⌝ }
 {
@@ -47,16 +47,16 @@ pub fn lines(t: Table, answers: [Answer; 32], out: &mut [u8]) -> usize
     ensures { λ r. ⌜ Given (tableText t answers) (now (out .entry)) r (now (out .exit)) ⌝ }
     ensures { λ _. ⌜ length (tableText t answers) ≤ 3266 ⌝ }
 {
-    let refusal = checks::check(t);
+    let refusal = admit::table(t);
     if refusal.number != 0 {
         return refused(refusal.number, out);
     }
     accepted_lines(t, answers, out)
 }
 
-// A table that was read, judged from nothing. It is not checked again.
+// A table that was read to judge it, judged from nothing. It is not checked again.
 fn list_table(t: Table, out: &mut [u8]) -> usize
-    requires { ⌜ isAccepted (checkTable t) ≡ true ⌝ }
+    requires { ⌜ isAccepted (checkJudged t) ≡ true ⌝ }
     ensures { λ r. ⌜ Given (tableLines t (judgeAll t (replicate 32 0) .answers)) (now (out .entry)) r (now (out .exit)) ⌝ }
     ensures { λ _. ⌜ length (tableLines t (judgeAll t (replicate 32 0) .answers)) ≤ 3266 ⌝ }
 {
@@ -70,7 +70,7 @@ pub fn list(file: &[u8], out: &mut [u8]) -> usize
     ensures { λ r. ⌜ Given (listing (now (file .entry))) (now (out .entry)) r (now (out .exit)) ⌝ }
     ensures { λ _. ⌜ length (listing (now (file .entry))) ≤ 3266 ⌝ }
 {
-    let read = file::read(file);
+    let read = admit_file::read(file);
     if read.refusal.number != 0 {
         return refused(read.refusal.number, out);
     }

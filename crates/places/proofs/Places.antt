@@ -18,6 +18,10 @@ module _ (form cores : ℕ) where
   unfolding recordsAt
   records-are = refl
 
+  -- whatever the cores, the counts and the timing figures stand before them
+  pub records-limit : 34 ≤ recordsAt form cores
+  records-limit = omega (arith, records-are, sets-limit form)
+
   pub record-place : (i : ℕ) → recordAt form cores (i + 1) ≡ recordsAt form cores + recordSize form * i
   unfolding recordAt
   record-place i = let e : i + 1 - 1 ≡ i = omega arith in rw e

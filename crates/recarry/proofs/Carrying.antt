@@ -14,10 +14,9 @@ use Rattle.rules.specs.Judgement.{judge, misses, boundOf}
 use Rattle.rules.specs.Chain.{isAccepted}
 use Rattle.rules.specs.Order.{worsens}
 use Rattle.rules.specs.File.{tasksIn, decode}
-use Rattle.rules.specs.Operations.{checkFile, reading, answersFrom, fresh, verdicts, checkBoth, rejudging}
-use Rattle.facts.proofs.Reading.{decoded-accepted}
-use Rattle.file.proofs.WasRead.{refusal-of, not-accepted}
-use Rattle.facts.proofs.Starts.{accepted-judged}
+use Rattle.rules.specs.Operations.{checkToJudge, readToJudge, answersFrom, fresh, verdicts, checkBoth, rejudging}
+use Rattle.facts.proofs.ToJudge.{judged-table}
+use Rattle.admit_file.proofs.WasToJudge.{refusal-of, not-accepted}
 use Rattle.facts.proofs.Again.{rejudged-verdicts}
 use Rattle.laws.proofs.Filled.{take-filled}
 use Rattle.plain.specs.Codes.{byNumber}
@@ -41,10 +40,10 @@ column f l m e = sym (through l) ∙ ap (map f) e ∙ through m
     through [] = refl
     through (a ∷ l) = ap {B = List ℕ} (λ r. f (a .verdict) ∷ r) (through l)
 
-module _ (older newer : List ℕ) (was : isAccepted (checkFile older) ≡ true) (is : isAccepted (checkFile newer) ≡ true) where
+module _ (older newer : List ℕ) (was : isAccepted (checkToJudge older) ≡ true) (is : isAccepted (checkToJudge newer) ≡ true) where
   both : isAccepted (checkBoth (decode older) (decode newer)) ≡ true
   unfolding checkBoth
-  both = rw (accepted-judged (decode older) (decoded-accepted older was)) (accepted-judged (decode newer) (decoded-accepted newer is))
+  both = rw (judged-table older was) (judged-table newer is)
 
   fresh-answers : take (tasksIn newer) (answersFrom (decode newer) fresh) ≡ answersOf newer []
   unfolding answersFrom answersOf decode
@@ -71,22 +70,22 @@ module _ (older newer bounds rounds by : List ℕ) where
       let h = rw e at refused in
       (e, record { stored = unchanged h; bounds-fresh = rw h; by-fresh = rw h })
 
-  pub older-refused : {x : Read} → x ≡ reading older → (x .refusal .number ≡ 0 → ⊥)
+  pub older-refused : {x : Read} → x ≡ readToJudge older → (x .refusal .number ≡ 0 → ⊥)
       → Answered (record { refusal = x .refusal; faulty = Older }) bounds rounds by
   unfolding carryRefusal checkCarry checkFiles faultyFile
   older-refused read refused =
       let e = not-accepted older read refused in
       refused-files _ (rw (refusal-of older read) (simp e)) (rw (refusal-of older read) e)
 
-  module _ (was : isAccepted (checkFile older) ≡ true) where
-    pub newer-refused : {y : Read} → y ≡ reading newer → (y .refusal .number ≡ 0 → ⊥)
+  module _ (was : isAccepted (checkToJudge older) ≡ true) where
+    pub newer-refused : {y : Read} → y ≡ readToJudge newer → (y .refusal .number ≡ 0 → ⊥)
         → Answered (record { refusal = y .refusal; faulty = Newer }) bounds rounds by
     unfolding carryRefusal checkCarry checkFiles faultyFile
     newer-refused read refused =
         let e = not-accepted newer read refused in
         refused-files _ (rw (refusal-of newer read) (simp (was, e))) (rw (refusal-of newer read) e)
 
-    module _ (is : isAccepted (checkFile newer) ≡ true) where
+    module _ (is : isAccepted (checkToJudge newer) ≡ true) where
       decided : {z : Refusal} → z ≡ checkOutputs (tasksIn newer) bounds rounds by
           → _≡_ {A = CarryRefusal} (record { refusal = z; faulty = Neither }) (carryRefusal older newer bounds rounds by)
       unfolding carryRefusal checkCarry checkFiles faultyFile
@@ -115,15 +114,15 @@ module _ (older newer bounds rounds by : List ℕ) where
 -- ---- whether the newer file is the older one worsened
 
 module _ (older newer : List ℕ) where
-  pub older-none : isAccepted (checkFile older) ≡ false → false ≡ filesWorsen older newer
+  pub older-none : isAccepted (checkToJudge older) ≡ false → false ≡ filesWorsen older newer
   unfolding filesWorsen checkFiles
   older-none e = simp e
 
-  module _ (was : isAccepted (checkFile older) ≡ true) where
-    pub newer-none : isAccepted (checkFile newer) ≡ false → false ≡ filesWorsen older newer
+  module _ (was : isAccepted (checkToJudge older) ≡ true) where
+    pub newer-none : isAccepted (checkToJudge newer) ≡ false → false ≡ filesWorsen older newer
     unfolding filesWorsen checkFiles
     newer-none e = simp (was, e)
 
-    pub both-read : {a b : Table} → isAccepted (checkFile newer) ≡ true → a ≡ decode older → b ≡ decode newer → worsens a b ≡ filesWorsen older newer
+    pub both-read : {a b : Table} → isAccepted (checkToJudge newer) ≡ true → a ≡ decode older → b ≡ decode newer → worsens a b ≡ filesWorsen older newer
     unfolding filesWorsen checkFiles
     both-read is e f = rw (e, f) (simp (was, is))

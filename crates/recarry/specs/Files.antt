@@ -11,7 +11,7 @@ use Rattle.rules.specs.declared.Faulty.the-variants.{Neither, Older, Newer}
 use Rattle.rules.specs.Chain.{_orElse_, isAccepted}
 use Rattle.rules.specs.Order.{worsens}
 use Rattle.rules.specs.File.{tasksIn, decode}
-use Rattle.rules.specs.Operations.{checkFile, rejudging}
+use Rattle.rules.specs.Operations.{checkToJudge, rejudging}
 use Rattle.plain.specs.Codes.{codeOf}
 use Rattle.stored.specs.Stored.{checkOutputs, laidUnless, boundIn, byIn, Stored}
 use Rattle.judged.specs.JudgedFile.{answersOf}
@@ -19,10 +19,10 @@ use Rattle.recarry.specs.declared.CarryRefusal.{CarryRefusal}
 
 -- the older file's refusals, then the newer's; which of them is refused
 unfoldable pub checkFiles : List ℕ → List ℕ → Refusal
-checkFiles older newer = checkFile older orElse checkFile newer
+checkFiles older newer = checkToJudge older orElse checkToJudge newer
 
 unfoldable pub faultyFile : List ℕ → List ℕ → Faulty
-faultyFile older newer = cond (isAccepted (checkFile older)) (cond (isAccepted (checkFile newer)) Neither Newer) Older
+faultyFile older newer = cond (isAccepted (checkToJudge older)) (cond (isAccepted (checkToJudge newer)) Neither Newer) Older
 
 -- then 255, which is neither's, where an output has fewer places than the newer file has tasks
 unfoldable pub checkCarry : List ℕ → List ℕ → List ℕ → List ℕ → List ℕ → Refusal
@@ -50,6 +50,6 @@ pub record CarriedFiles (older newer bounds rounds by bounds′ rounds′ by′ 
   pub bounds-fresh : bounds′ ≡ laidUnless (checkCarry older newer bounds rounds by) (map boundIn (answersOf newer [])) bounds
   pub by-fresh : by′ ≡ laidUnless (checkCarry older newer bounds rounds by) (map byIn (answersOf newer [])) by
 
--- both files are accepted and the newer is the older one worsened (RULES 6.4): what `isCarried` says of two tables
+-- both files may be judged and the newer is the older one worsened (RULES 6.4): what `isCarried` says of two tables
 unfoldable pub filesWorsen : List ℕ → List ℕ → Bool
 filesWorsen older newer = isAccepted (checkFiles older newer) && worsens (decode older) (decode newer)

@@ -7,7 +7,7 @@ ghost use mathlib.Core.Bool.{true};
 ghost use Prim.Native.Nat.{_≤_};
 ghost use lib.ListN.{take};
 ghost use Rattle.rules.specs.Chain.{isAccepted};
-ghost use Rattle.rules.specs.Refusals.{checkTable};
+ghost use Rattle.rules.specs.Refusals.{checkJudged};
 ghost use Rattle.rules.specs.Operations.{rejudging};
 ghost use Rattle.stored.specs.Stored.{checkOutputs, Stored};
 ghost use Rattle.recarry.specs.Files.{carryRefusal, CarriedFiles, filesWorsen, tableNumber, carryCode};
@@ -38,7 +38,7 @@ pub fn code(refused: CarryRefusal) -> u32
     (plain::code(refusal) as u32) + 65536 * table_number(faulty)
 }
 
-// The answers of two accepted tables into the outputs; 255 where one is too short for them, and nothing changes.
+// The answers of two tables that may be judged into the outputs; 255 where one is too short for them, and nothing changes.
 fn store_after(
     older: Table,
     newer: Table,
@@ -46,8 +46,8 @@ fn store_after(
     rounds: &mut [u64],
     by: &mut [u8],
 ) -> Refusal
-    requires { ⌜ isAccepted (checkTable older) ≡ true ⌝ }
-    requires { ⌜ isAccepted (checkTable newer) ≡ true ⌝ }
+    requires { ⌜ isAccepted (checkJudged older) ≡ true ⌝ }
+    requires { ⌜ isAccepted (checkJudged newer) ≡ true ⌝ }
     ensures { λ r. ⌜ r ≡ checkOutputs (newer .tasks) (now (bounds .entry)) (now (rounds .entry)) (now (by .entry)) ⌝ }
     ensures { λ r. ⌜ Stored r (take (newer .tasks) (rejudging older newer .answers)) (now (bounds .entry)) (now (rounds .entry)) (now (by .entry)) (now (bounds .exit)) (now (rounds .exit)) (now (by .exit)) ⌝ }
 {
@@ -56,7 +56,7 @@ fn store_after(
     stored::store_answers(answers, n, bounds, rounds, by)
 }
 
-// The older file's 1 to 11 and 16, then the newer's, then 255 where an output has fewer places than the newer file has tasks; or every task's answer.
+// The older file's 1 to 11, 16 and 18, then the newer's, then 255 where an output has fewer places than the newer file has tasks; or every task's answer.
 // A refusal changes nothing.
 pub fn carry_files(
     older: &[u8],
@@ -68,7 +68,7 @@ pub fn carry_files(
     ensures { λ r. ⌜ r ≡ carryRefusal (now (older .entry)) (now (newer .entry)) (now (bounds .entry)) (now (rounds .entry)) (now (by .entry)) ⌝ }
     ensures { λ _. ⌜ CarriedFiles (now (older .entry)) (now (newer .entry)) (now (bounds .entry)) (now (rounds .entry)) (now (by .entry)) (now (bounds .exit)) (now (rounds .exit)) (now (by .exit)) ⌝ }
 {
-    let was = file::read(older);
+    let was = admit_file::read(older);
     let first = was.refusal;
     if first.number != 0 {
         return CarryRefusal {
@@ -76,7 +76,7 @@ pub fn carry_files(
             faulty: Faulty::Older,
         };
     }
-    let is = file::read(newer);
+    let is = admit_file::read(newer);
     let second = is.refusal;
     if second.number != 0 {
         return CarryRefusal {
@@ -93,15 +93,15 @@ pub fn carry_files(
     }
 }
 
-// Both files are accepted, and the newer is the older one worsened: then a judgement of the newer starts from the older bounds.
+// Both files may be judged, and the newer is the older one worsened: then a judgement of the newer starts from the older bounds.
 pub fn worsens_files(older: &[u8], newer: &[u8]) -> bool
     ensures { λ r. ⌜ r ≡ filesWorsen (now (older .entry)) (now (newer .entry)) ⌝ }
 {
-    let was = file::read(older);
+    let was = admit_file::read(older);
     if was.refusal.number != 0 {
         return false;
     }
-    let is = file::read(newer);
+    let is = admit_file::read(newer);
     if is.refusal.number != 0 {
         return false;
     }

@@ -15,12 +15,13 @@ use Rattle.rules.specs.declared.Answer.{Answer}
 use Rattle.rules.specs.Judgement.{misses, withDelay, judge, IsBound}
 use Rattle.rules.specs.Response.{decider}
 use Rattle.rules.specs.Chain.{isAccepted}
-use Rattle.rules.specs.Refusals.{checkTable}
-use Rattle.rules.specs.Operations.{reading, judgeAll, freshStarts}
+use Rattle.rules.specs.Refusals.{checkJudged}
+use Rattle.rules.specs.Operations.{readToJudge, judgeAll, freshStarts}
 use Rattle.rules.specs.Listing.{isMiss}
 use Rattle.facts.proofs.AllStarts.{none-refused, all-answered, all-fresh, fresh-starts}
 use Rattle.facts.proofs.Points.{fresh-right}
-use Rattle.facts.proofs.Reading.{refusal-read, read-accepted}
+use Rattle.facts.proofs.Starts.{judged-accepted}
+use Rattle.facts.proofs.ToJudge.{refusal-to-judge, judged-table, table-to-judge}
 use Rattle.status.specs.Status.{held, allHold, fileStatus}
 use Rattle.status.specs.Tied.{HasBound, IsTask, TiedToBounds}
 use Rattle.status.proofs.Decided.{refused-status, accepted-status}
@@ -49,28 +50,30 @@ module _ {f : ℕ → ℕ} {from deadline : ℕ} (by : ℕ → Delay) where
   holds-bound (none no-solution) =
       (λ e. absurd (clash (sym e)), λ r. absurd (no-solution (r .0) (r .1 .solution)))
 
-module _ (t : Table) (accepted : isAccepted (checkTable t) ≡ true) (k : ℕ) (low : 1 ≤ k) (high : k ≤ t .tasks) where
+module _ (t : Table) (judged : isAccepted (checkJudged t) ≡ true) (k : ℕ) (low : 1 ≤ k) (high : k ≤ t .tasks) where
   answered : entry (misses 0) (judgeAll t freshStarts .answers) k ≡ judge t k 0
-  answered = all-answered t freshStarts (rw (none-refused t accepted freshStarts (all-fresh t accepted))) k low high ∙ ap (judge t k) (fresh-starts k)
+  answered = all-answered t freshStarts (rw (none-refused t judged freshStarts (all-fresh t (judged-accepted t judged)))) k low high ∙ ap (judge t k) (fresh-starts k)
 
   held-bound : (held (judgeAll t freshStarts .answers) k ≡ true) ↔ ((R : ℕ) × IsBound t k R)
   unfolding judge
-  held-bound = rw answered (holds-bound (decider t k) (fresh-right t accepted k low high))
+  held-bound = rw answered (holds-bound (decider t k) (fresh-right t (judged-accepted t judged) k low high))
 
 -- ---- the file
 
 module _ (s : List ℕ) where
   abbrev table : Table
-  table = reading s .table
+  table = readToJudge s .table
 
   abbrev answers : List Answer
   answers = judgeAll table freshStarts .answers
 
   abbrev Accepted : Type 0
-  Accepted = isAccepted (reading s .refusal) ≡ true
+  Accepted = isAccepted (readToJudge s .refusal) ≡ true
 
   task-bound : Accepted → (k : ℕ) → IsTask s k → (held answers k ≡ true) ↔ HasBound s k
-  task-bound a k task = held-bound table (read-accepted s (rw (refusal-read s) at a)) k (task .0) (task .1)
+  task-bound a k task =
+      let passed = rw (refusal-to-judge s) at a in
+      held-bound table (rw (table-to-judge s passed) (judged-table s passed)) k (task .0) (task .1)
 
   all-bound : Accepted → (allHold (table .tasks) answers ≡ true) ↔ ((k : ℕ) → IsTask s k → HasBound s k)
   unfolding allHold
@@ -86,7 +89,7 @@ module _ (s : List ℕ) where
       let task = member-upTo (table .tasks) m in
       (k, task, λ bound. clash (sym (task-bound a k task .1 bound) ∙ fails))
 
-  decided : (b : Bool) → isAccepted (reading s .refusal) ≡ b → (h : Bool) → allHold (table .tasks) answers ≡ h → TiedToBounds s
+  decided : (b : Bool) → isAccepted (readToJudge s .refusal) ≡ b → (h : Bool) → allHold (table .tasks) answers ≡ h → TiedToBounds s
   decided true a true h =
       let zero : fileStatus s ≡ 0 = accepted-status s a ∙ rw h in record {
         every-bound = (λ e. (a, all-bound a .0 h), λ e. zero);
@@ -107,4 +110,4 @@ module _ (s : List ℕ) where
       }
 
   pub tied-to-bounds : TiedToBounds s
-  tied-to-bounds = decided (isAccepted (reading s .refusal)) refl (allHold (table .tasks) answers) refl
+  tied-to-bounds = decided (isAccepted (readToJudge s .refusal)) refl (allHold (table .tasks) answers) refl

@@ -11,7 +11,7 @@ use Rattle.rules.specs.declared.Answer.{Answer}
 use Rattle.rules.specs.Judgement.{misses}
 use Rattle.rules.specs.Tasks.{coreOf}
 use Rattle.rules.specs.Chain.{isAccepted}
-use Rattle.rules.specs.Operations.{reading, judgeAll, freshStarts}
+use Rattle.rules.specs.Operations.{readToJudge, judgeAll, freshStarts}
 use Rattle.rules.specs.Listing.{verdictWords, taskLine, isMiss, lastLine, tableLines, refusedLine, listing}
 use Rattle.status.specs.Status.{allHold, fileStatus}
 use Rattle.status.specs.Tied.{EndsIn, TiedToListing}
@@ -93,11 +93,11 @@ refused-ends n = refuse n refl
 
 listing-ends : (s : List ℕ) → Ends (listing s) (fileStatus s)
 unfolding listing
-listing-ends s = go (isAccepted (reading s .refusal)) refl
+listing-ends s = go (isAccepted (readToJudge s .refusal)) refl
   where
-    go : (b : Bool) → isAccepted (reading s .refusal) ≡ b → Ends (listing s) (fileStatus s)
-    go true e = rw (accepted-status s e, e) (table-ends (reading s .table) (judgeAll (reading s .table) freshStarts .answers))
-    go false e = rw (refused-status s e, e) (refused-ends (reading s .refusal .number))
+    go : (b : Bool) → isAccepted (readToJudge s .refusal) ≡ b → Ends (listing s) (fileStatus s)
+    go true e = rw (accepted-status s e, e) (table-ends (readToJudge s .table) (judgeAll (readToJudge s .table) freshStarts .answers))
+    go false e = rw (refused-status s e, e) (refused-ends (readToJudge s .refusal .number))
 
 pub tied-to-listing : (s : List ℕ) → TiedToListing s
 tied-to-listing s = let ends = listing-ends s in record {

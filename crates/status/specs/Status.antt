@@ -7,7 +7,7 @@ use Rattle.rules.specs.declared.Answer.{Answer}
 use Rattle.laws.specs.Idioms.{every, upTo, entry}
 use Rattle.rules.specs.Judgement.{misses}
 use Rattle.rules.specs.Chain.{isAccepted}
-use Rattle.rules.specs.Operations.{reading, judgeAll, freshStarts}
+use Rattle.rules.specs.Operations.{readToJudge, judgeAll, freshStarts}
 use Rattle.rules.specs.Listing.{isMiss}
 
 -- task number k holds; tasks 1 to n all hold
@@ -23,4 +23,4 @@ statusOf refusal tasks answers = cond (isAccepted refusal) (cond (allHold tasks 
 
 -- of a file, each task of its table judged from nothing
 unfoldable pub fileStatus : List ℕ → ℕ
-fileStatus s = statusOf (reading s .refusal) (reading s .table .tasks) (judgeAll (reading s .table) freshStarts .answers)
+fileStatus s = statusOf (readToJudge s .refusal) (readToJudge s .table .tasks) (judgeAll (readToJudge s .table) freshStarts .answers)

@@ -8,7 +8,7 @@ use Rattle.laws.specs.Idioms.{text}
 use Rattle.laws.specs.Decimal.{decimal}
 use Rattle.rules.specs.Judgement.{IsBound}
 use Rattle.rules.specs.Chain.{isAccepted}
-use Rattle.rules.specs.Operations.{reading}
+use Rattle.rules.specs.Operations.{readToJudge}
 use Rattle.rules.specs.Listing.{listing}
 use Rattle.status.specs.Status.{fileStatus}
 
@@ -28,20 +28,20 @@ pub record TiedToListing (s : List ℕ) : Type 0 where
 
 -- k is the number of a task of the table that a file holds
 abbrev pub IsTask : List ℕ → ℕ → Type 0
-IsTask s k = (1 ≤ k) × (k ≤ reading s .table .tasks)
+IsTask s k = (1 ≤ k) × (k ≤ readToJudge s .table .tasks)
 
 -- it has a bound: a smallest whole time from 1 to its deadline that satisfies the response equation
 abbrev pub HasBound : List ℕ → ℕ → Type 0
-HasBound s k = (R : ℕ) × IsBound (reading s .table) k R
+HasBound s k = (R : ℕ) × IsBound (readToJudge s .table) k R
 
 -- the number says whether the file is accepted, and whether its tasks have bounds
 pub record TiedToBounds (s : List ℕ) : Type 0 where
   -- 0 exactly if the file is accepted and every task has a bound
-  pub every-bound : (fileStatus s ≡ 0) ↔ ((isAccepted (reading s .refusal) ≡ true) × ((k : ℕ) → IsTask s k → HasBound s k))
+  pub every-bound : (fileStatus s ≡ 0) ↔ ((isAccepted (readToJudge s .refusal) ≡ true) × ((k : ℕ) → IsTask s k → HasBound s k))
   -- 1 exactly if it is accepted and a task has none
-  pub some-none : (fileStatus s ≡ 1) ↔ ((isAccepted (reading s .refusal) ≡ true) × (k : ℕ) × IsTask s k × ¬ HasBound s k)
+  pub some-none : (fileStatus s ≡ 1) ↔ ((isAccepted (readToJudge s .refusal) ≡ true) × (k : ℕ) × IsTask s k × ¬ HasBound s k)
   -- 2 exactly if it is refused
-  pub refused : (fileStatus s ≡ 2) ↔ (isAccepted (reading s .refusal) ≡ false)
+  pub refused : (fileStatus s ≡ 2) ↔ (isAccepted (readToJudge s .refusal) ≡ false)
 
 -- of every file
 pub record Tied : Type 0 where

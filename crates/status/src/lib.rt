@@ -5,7 +5,7 @@ ghost use Prim.Native.Nat.{_≤_};
 ghost use Rattle.status.specs.Status.{allHold, fileStatus};
 use rules::Answer;
 
-// Of an accepted file's answers: 0 where every task holds, 1 where one misses.
+// Of a file's answers: 0 where every task holds, 1 where one misses.
 fn of_answers(tasks: u8, answers: [Answer; 32]) -> u8
     requires { ⌜ tasks ≤ 32 ⌝ }
     ensures { λ r. ⌜ r ≡ cond (allHold tasks answers) 0 1 ⌝ }
@@ -23,11 +23,11 @@ fn of_answers(tasks: u8, answers: [Answer; 32]) -> u8
     0
 }
 
-// 0 where a file is accepted and every task holds, 1 where it is accepted and a task misses, 2 where it is refused.
+// 0 where a file may be judged and every task holds, 1 where a task misses, 2 where it is refused.
 pub fn of_file(file: &[u8]) -> u8
     ensures { λ r. ⌜ r ≡ fileStatus (now (file .entry)) ⌝ }
 {
-    let refusal = file::check(file);
+    let refusal = admit_file::check(file);
     if refusal.number != 0 {
         return 2;
     }

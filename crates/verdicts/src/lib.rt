@@ -5,7 +5,7 @@ ghost use lib.ListN.{length};
 ghost use Rattle.rules.specs.declared.Table.{Table};
 ghost use Rattle.rules.specs.Chain.{isAccepted};
 ghost use Rattle.rules.specs.File.{decode};
-ghost use Rattle.rules.specs.Operations.{checkFile, judgeAll};
+ghost use Rattle.rules.specs.Operations.{checkFile, checkToJudge, judgeAll};
 ghost use Rattle.groups.specs.Grouped.{PlacesBelow};
 ghost use Rattle.groups.specs.Columns.{PerTask, Columns};
 ghost use Rattle.rounds.specs.Lent.{lentOf};
@@ -101,7 +101,7 @@ fn laid(
 
 // 13 with the first late start, 14 with the first whose start F lowers, or every task's answer.
 pub fn judge_accepted(file: &[u8], starts: [u64; 32]) -> AllJudged
-    requires { ⌜ isAccepted (checkFile (now file)) ≡ true ⌝ }
+    requires { ⌜ isAccepted (checkToJudge (now file)) ≡ true ⌝ }
     ensures { λ r. ⌜ r ≡ judgeAll (decode (now (file .entry))) starts ⌝ }
 {
     let mut core = [0u8; 32];

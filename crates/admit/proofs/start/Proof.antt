@@ -5,8 +5,7 @@ use mathlib.Core.Bool.{true}
 use native.Mathlib.Omega.{arith}
 use Rattle.rules.specs.Chain.{isAccepted}
 use Rattle.rules.specs.Refusals.{checkJudged}
-use Rattle.facts.proofs.Accepted.{sound}
-use Rattle.facts.proofs.Starts.{judged-accepted}
+use Rattle.facts.proofs.Starts.{judged-sound}
 use Rattle.facts.proofs.Chain.{passes, refuses}
 use Rattle.admit.proofs.Links.{start-table, start-low, start-high, start-late, start-passes}
 use Rattle.admit.proofs.start.Statement.{statement}
@@ -29,7 +28,7 @@ returns-3 : tie.Need-returns-3
 returns-3 c = let a = c .before .before .before .before .before .before .args in c .refused2 .ensures ∙ start-high (a .t1) (a .k) (a .start .0) (table-passes (c .before .before .before)) (search needs)
 
 element-copy-out-task : tie.Need-element-copy-out-task
-element-copy-out-task c = omega (arith, sound (c .before .before .before .before .before .args .t1) (judged-accepted _ (table-passes (c .before .before))) .tasks-in .high)
+element-copy-out-task c = omega (arith, judged-sound (c .before .before .before .before .before .args .t1) (table-passes (c .before .before)) .tasks-in .high)
 
 returns-4 : tie.Need-returns-4
 returns-4 c =

@@ -10,6 +10,7 @@ use Rattle.rules.specs.Judgement.{misses, boundOf}
 use Rattle.rules.specs.Operations.{answersFrom, fresh}
 use Rattle.judge.proofs.Column.{Column, column-none, column-next}
 use Rattle.facts.proofs.AllStarts.{all-fresh, answers-long, fresh-starts, bounds-of-answers}
+use Rattle.facts.proofs.Starts.{judged-accepted}
 use Rattle.facts.proofs.LentStarts.{answers-same}
 use Rattle.after.proofs.older_starts.Statement.{statement}
 use Rattle.after.proofs.older_starts.Tie as tie
@@ -24,10 +25,10 @@ all-answers : (c : tie.After-answers Inv-loop μ-loop) → c .answers .result �
 all-answers c = c .answers .ensures ∙ answers-same (c .before .args .older) _ fresh (λ k low high. fresh-starts k)
 
 all-long : (c : tie.After-answers Inv-loop μ-loop) → length (c .answers .result) ≡ 32
-all-long c = ap length (all-answers c) ∙ answers-long (c .before .args .older) (c .before .pre) fresh
+all-long c = ap length (all-answers c) ∙ answers-long (c .before .args .older) (judged-accepted _ (c .before .pre)) fresh
 
 answers-requires : tie.Need-answers-requires Inv-loop μ-loop
-answers-requires c κs = (c .pre, all-fresh (c .args .older) (c .pre))
+answers-requires c κs = (c .pre, all-fresh (c .args .older) (judged-accepted _ (c .pre)))
 
 loop-again : tie.Need-loop-again Inv-loop μ-loop
 loop-again c =

@@ -1,6 +1,6 @@
 -- Every task. Assumes nothing.
 use mathlib.Core.Path.{refl, _∙_}
-use Rattle.facts.proofs.Accepted.{sound}
+use Rattle.facts.proofs.Starts.{judged-sound}
 use Rattle.columns.proofs.Holding.{of-judgeable}
 use Rattle.columns.proofs.AllJudged.{judged-is}
 use Rattle.columns.proofs.judge_tasks.Statement.{statement}
@@ -9,7 +9,7 @@ use Rattle.columns.proofs.judge_tasks.Tie as tie
 judge-lent-requires : tie.Need-judge-lent-requires
 judge-lent-requires c κs =
     let s = c .before .before .before .before .before .before .before .before .before .before .before .before .before .before in
-    of-judgeable (s .args .table) (sound _ (s .pre)) (c .before .before .before .before .before .before .before .laid .ensures)
+    of-judgeable (s .args .table) (judged-sound _ (s .pre)) (c .before .before .before .before .before .before .before .laid .ensures)
 
 returns : tie.Need-returns
 returns c =
@@ -18,4 +18,4 @@ returns c =
 
 pub judge-tasks-spec : {M : Type 1} → statement M
 judge-tasks-spec =
-    tie.close (tie.spec (λ c κs. ((sound _ (c .before .before .before .before .before .before .pre), refl, refl), (refl, refl, refl))) judge-lent-requires returns)
+    tie.close (tie.spec (λ c κs. ((judged-sound _ (c .before .before .before .before .before .before .pre), refl, refl), (refl, refl, refl))) judge-lent-requires returns)

@@ -1,12 +1,11 @@
 -- The sets of a file's cores. Assumes nothing.
-use Prim.Native.Nat.{_+_}
 use native.Mathlib.Omega.{arith}
 use borrow.Author.Needs.{needs}
-use Rattle.rules.specs.File.{setsAt, formIn, coresIn, tasksIn}
+use Rattle.rules.specs.File.{setsAt, formIn, coresIn}
 use Rattle.laws.proofs.Runs.{sets-filled}
-use Rattle.places.proofs.Places.{after-sets, length-is}
+use Rattle.places.proofs.Places.{records-are}
 use Rattle.fields.specs.Places.{figuresIn}
-use Rattle.fields.proofs.Steps.{figures-length}
+use Rattle.fields.proofs.Steps.{figures-length, header-there}
 use Rattle.fields.proofs.sets_in.Statement.{statement}
 use Rattle.fields.proofs.sets_in.Tie as tie
 
@@ -15,7 +14,7 @@ figures-requires c κs =
     let z = c .before in
     let a = z .before .before in
     let s = a .before .before .before .args .file .now in
-    omega (arith, z .size .ensures, a .sets-at .ensures, after-sets (formIn s) (coresIn s) (tasksIn s + 1), length-is (formIn s) (coresIn s) (tasksIn s))
+    omega (arith, z .size .ensures, a .sets-at .ensures, records-are (formIn s) (coresIn s))
 
 returns : tie.Need-returns
 returns c =
@@ -28,4 +27,4 @@ returns c =
 pub sets-in-spec : {M : Type 1} → statement M
 sets-in-spec =
     tie.close
-    (tie.spec (λ c. search needs) (λ c κs. search needs) (λ c. search needs) (λ c κs. search needs) (λ c. search needs) figures-requires returns)
+    (tie.spec (λ c. let s = c .before .before in omega (arith, header-there (s .args .file .now) (s .pre .1))) (λ c κs. search needs) (λ c. let s = c .before .before .before .before in omega (arith, header-there (s .args .file .now) (s .pre .1))) (λ c κs. search needs) (λ c. search needs) figures-requires returns)

@@ -1,7 +1,6 @@
 -- The judgement of all tasks: the checks before it, then 13, 14 or the answers. Assumes nothing.
 use borrow.Author.Needs.{needs}
 use mathlib.Core.Path.{_∙_, ap}
-use Rattle.facts.proofs.Starts.{judged-accepted}
 use Rattle.facts.proofs.Chain.{passes, refuses}
 use Rattle.unjudged.specs.Unjudged.{noneJudged}
 use Rattle.rules.specs.Operations.{judgeAll}
@@ -21,4 +20,4 @@ judge-all-spec =
     tie.close
     (tie.spec (λ c κs. search needs) (λ c κs. search needs) returns
     (λ c κs. search needs)
-    (λ c κs. judged-accepted _ (passes (c .before .before .before .table .ensures) (c .before .if1 .left))) (λ c. c .judge-tasks .ensures ∙ ap (judgeAll _) (c .before .numbers .ensures)))
+    (λ c κs. passes (c .before .before .before .table .ensures) (c .before .if1 .left)) (λ c. c .judge-tasks .ensures ∙ ap (judgeAll _) (c .before .numbers .ensures)))

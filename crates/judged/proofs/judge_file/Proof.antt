@@ -5,14 +5,15 @@ use borrow.Author.Needs.{needs}
 use native.Mathlib.Omega.{arith}
 use Rattle.rules.specs.Chain.{isAccepted}
 use Rattle.rules.specs.File.{decode}
-use Rattle.rules.specs.Operations.{checkFile, judgeAll}
+use Rattle.rules.specs.Operations.{checkToJudge, judgeAll}
 use Rattle.facts.proofs.Chain.{passes}
+use Rattle.facts.proofs.ToJudge.{judged-file}
 use Rattle.file.proofs.Reading.{file-sized, file-counts}
 use Rattle.judged.proofs.Judging.{lentStarts, file-refused, start-refused, all-judged}
 use Rattle.judged.proofs.judge_file.Statement.{statement}
 use Rattle.judged.proofs.judge_file.Tie as tie
 
-accepts : (c : tie.Else1) → isAccepted (checkFile (c .before .before .before .before .before .before .before .before .args .file .now)) ≡ true
+accepts : (c : tie.Else1) → isAccepted (checkToJudge (c .before .before .before .before .before .before .before .before .args .file .now)) ≡ true
 accepts c = passes (c .before .before .check .ensures) (c .if1 .left)
 
 gave : (c : tie.After-judge-accepted) → let a = c .before .before .before .before .before .before .before .before .before .before .args in c .judge-accepted .result ≡ judgeAll (decode (a .file .now)) (lentStarts (a .file .now) (a .starts .now))
@@ -27,7 +28,7 @@ returns-2 c =
     start-refused _ _ (accepts (j .before .before)) (gave j) (c .before .if2 .taken)
 
 few : tie.Need-store-answers-requires
-few c κs = rw (c .before .before .before .size .ensures .0) (file-counts _ (accepts (c .before .before .before .before .before .before .before .before .before .before)) .1)
+few c κs = rw (c .before .before .before .size .ensures .0) (file-counts _ (judged-file _ (accepts (c .before .before .before .before .before .before .before .before .before .before))) .1)
 
 returns-3 : tie.Need-returns-3
 returns-3 c =
@@ -41,5 +42,5 @@ pub judge-file-spec : {M : Type 1} → statement M
 judge-file-spec =
     tie.close
     (tie.spec (λ c κs. search needs) returns (λ c κs. search needs) (λ c κs. accepts (c .before)) returns-2
-    (λ c. omega (arith, file-sized _ (accepts (c .before .before .before .before .before .before)) .long)) (λ c κs. search needs) few
+    (λ c. omega (arith, file-sized _ (judged-file _ (accepts (c .before .before .before .before .before .before))) .long)) (λ c κs. search needs) few
     (λ c. search needs) (λ c. search needs) (λ c. search needs) returns-3)

@@ -1,7 +1,7 @@
 -- `list` meets its contract: what reading gives is what the listing is made of. Assumes nothing.
 use native.Mathlib.Omega.{arith}
 use borrow.Author.Needs.{needs}
-use Rattle.file.proofs.WasRead.{table-accepted}
+use Rattle.admit_file.proofs.WasToJudge.{table-judged}
 use Rattle.listing.proofs.Listed.{listed-refused, listed-table}
 use Rattle.listing.proofs.list.Statement.{statement}
 use Rattle.listing.proofs.list.Tie as tie
@@ -14,7 +14,7 @@ returns c =
     (rw listed (line .refused .ensures .0), rw listed (omega (arith, line .refused .ensures .1)))
 
 list-table-requires : tie.Need-list-table-requires
-list-table-requires c κs = let test = c .before .before in table-accepted _ (test .before .before .read .ensures) (test .if1 .left)
+list-table-requires c κs = let test = c .before .before in table-judged _ (test .before .before .read .ensures) (test .if1 .left)
 
 returns-2 : tie.Need-returns-2
 returns-2 c =

@@ -3,13 +3,13 @@ use mathlib.Core.Path.{_≡_}
 use mathlib.Core.Bool.{true}
 use borrow.Author.Needs.{needs}
 use Rattle.rules.specs.Chain.{isAccepted}
-use Rattle.rules.specs.Operations.{checkFile}
-use Rattle.file.proofs.WasRead.{was-accepted, table-of, table-accepted}
+use Rattle.rules.specs.Operations.{checkToJudge}
+use Rattle.admit_file.proofs.WasToJudge.{was-accepted, table-of, table-judged}
 use Rattle.recarry.proofs.Carrying.{older-refused, newer-refused, files-judged}
 use Rattle.recarry.proofs.carry_files.Statement.{statement}
 use Rattle.recarry.proofs.carry_files.Tie as tie
 
-older-passes : (c : tie.Else1) → isAccepted (checkFile (c .before .before .before .before .before .before .before .before .before .args .older .now)) ≡ true
+older-passes : (c : tie.Else1) → isAccepted (checkToJudge (c .before .before .before .before .before .before .before .before .before .args .older .now)) ≡ true
 older-passes c = was-accepted _ (c .before .before .before .read .ensures) (c .if1 .left)
 
 returns : tie.Need-returns
@@ -22,7 +22,7 @@ store-after-requires : tie.Need-store-after-requires
 store-after-requires c κs =
     let newer = c .before .before .before .before .before in
     let older = newer .before .before .before .before in
-    (table-accepted _ (older .before .before .before .read .ensures) (older .if1 .left), table-accepted _ (newer .before .before .before .read2 .ensures) (newer .if2 .left))
+    (table-judged _ (older .before .before .before .read .ensures) (older .if1 .left), table-judged _ (newer .before .before .before .read2 .ensures) (newer .if2 .left))
 
 returns-3 : tie.Need-returns-3
 returns-3 c =

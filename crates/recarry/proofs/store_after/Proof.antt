@@ -1,14 +1,14 @@
 -- `store_after` meets its contract. Assumes nothing.
 use borrow.Author.Needs.{needs}
 use native.Mathlib.Omega.{arith}
-use Rattle.facts.proofs.Accepted.{sound}
+use Rattle.facts.proofs.Starts.{judged-sound}
 use Rattle.recarry.proofs.store_after.Statement.{statement}
 use Rattle.recarry.proofs.store_after.Tie as tie
 
 store-answers-requires : tie.Need-store-answers-requires
 store-answers-requires c κs =
     let pre = c .before .before .before .before .before .before .before .before .before .pre in
-    omega (arith, sound _ (pre .0) .tasks-in .high, sound _ (pre .1) .tasks-in .high)
+    omega (arith, judged-sound _ (pre .0) .tasks-in .high, judged-sound _ (pre .1) .tasks-in .high)
 
 returns : tie.Need-returns
 returns c =

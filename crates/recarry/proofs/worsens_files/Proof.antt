@@ -3,13 +3,13 @@ use mathlib.Core.Path.{_≡_, _∙_}
 use mathlib.Core.Bool.{true}
 use borrow.Author.Needs.{needs}
 use Rattle.rules.specs.Chain.{isAccepted}
-use Rattle.rules.specs.Operations.{checkFile}
-use Rattle.file.proofs.WasRead.{not-accepted, was-accepted, table-of}
+use Rattle.rules.specs.Operations.{checkToJudge}
+use Rattle.admit_file.proofs.WasToJudge.{not-accepted, was-accepted, table-of}
 use Rattle.recarry.proofs.Carrying.{older-none, newer-none, both-read}
 use Rattle.recarry.proofs.worsens_files.Statement.{statement}
 use Rattle.recarry.proofs.worsens_files.Tie as tie
 
-older-passes : (c : tie.Else1) → isAccepted (checkFile (c .before .before .before .before .before .args .older .now)) ≡ true
+older-passes : (c : tie.Else1) → isAccepted (checkToJudge (c .before .before .before .before .before .args .older .now)) ≡ true
 older-passes c = was-accepted _ (c .before .before .read .ensures) (c .if1 .left)
 
 returns : tie.Need-returns

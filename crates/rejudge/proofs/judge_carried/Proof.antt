@@ -6,7 +6,6 @@ use Rattle.rules.specs.declared.Refusal.{Refusal}
 use Rattle.rules.specs.declared.Faulty.the-variants.{Older, Newer}
 use Rattle.rules.specs.Chain.{isAccepted}
 use Rattle.rules.specs.Refusals.{checkJudged}
-use Rattle.facts.proofs.Starts.{judged-accepted}
 use Rattle.rejudge.specs.Carried.{notRejudged}
 use Rattle.facts.proofs.Chain.{passes, refuses}
 use Rattle.rejudge.proofs.Again.{carried-promise, again-older, again-newer, again-judged}
@@ -35,8 +34,7 @@ returns-2 c =
     (c .not-rejudged2 .ensures ∙ ap (λ (r : Refusal). notRejudged r Newer) e ∙ again-newer (a .older) (a .newer) (older-passes (c .before .before .before .before)) (refuses e (c .before .if2 .taken)))
 
 answers-after-requires : tie.Need-answers-after-requires
-answers-after-requires c κs =
-    (judged-accepted _ (older-passes (c .before .before .before .before)), (judged-accepted _ (newer-passes (c .before)), c .worsens .ensures))
+answers-after-requires c κs = (older-passes (c .before .before .before .before), (newer-passes (c .before), c .worsens .ensures))
 
 returns-3 : tie.Need-returns-3
 returns-3 c =

@@ -4,14 +4,15 @@ use mathlib.Core.Bool.{true}
 use native.Mathlib.Omega.{arith}
 use borrow.Author.Needs.{needs}
 use Rattle.rules.specs.Chain.{isAccepted}
-use Rattle.rules.specs.Operations.{checkFile}
+use Rattle.rules.specs.Operations.{checkToJudge}
 use Rattle.facts.proofs.Chain.{passes, refuses}
+use Rattle.facts.proofs.ToJudge.{judged-file}
 use Rattle.file.proofs.Reading.{file-sized, file-counts}
 use Rattle.status.proofs.Decided.{status-refused, status-accepted}
 use Rattle.status.proofs.of_file.Statement.{statement}
 use Rattle.status.proofs.of_file.Tie as tie
 
-accepts : (c : tie.Else1) → isAccepted (checkFile (c .before .before .before .before .args .file .now)) ≡ true
+accepts : (c : tie.Else1) → isAccepted (checkToJudge (c .before .before .before .before .args .file .now)) ≡ true
 accepts c = passes (c .before .before .check .ensures) (c .if1 .left)
 
 returns : tie.Need-returns
@@ -25,5 +26,5 @@ returns-2 c =
 pub of-file-spec : {M : Type 1} → statement M
 of-file-spec =
     tie.close
-    (tie.spec (λ c κs. search needs) returns (λ c κs. accepts c) (λ c. omega (arith, file-sized _ (accepts (c .before .before .before)) .long))
-    (λ c κs. file-counts _ (accepts (c .before .before .before)) .1) returns-2)
+    (tie.spec (λ c κs. search needs) returns (λ c κs. accepts c) (λ c. omega (arith, file-sized _ (judged-file _ (accepts (c .before .before .before))) .long))
+    (λ c κs. file-counts _ (judged-file _ (accepts (c .before .before .before))) .1) returns-2)

@@ -1,8 +1,8 @@
--- An accepted file judged from its bytes. Assumes nothing.
+-- A file that may be judged, judged from its bytes. Assumes nothing.
 use borrow.Author.Needs.{needs}
 use mathlib.Core.Path.{refl, _∙_}
 use Rattle.rules.specs.File.{decode}
-use Rattle.facts.proofs.Reading.{decoded-accepted}
+use Rattle.facts.proofs.ToJudge.{judged-file, judged-table}
 use Rattle.columns.proofs.Holding.{of-judgeable}
 use Rattle.columns.proofs.AllJudged.{judged-is}
 use Rattle.verdicts.proofs.Accepted.{file-sound}
@@ -13,14 +13,15 @@ judge-lent-requires : tie.Need-judge-lent-requires
 judge-lent-requires c κs =
     let s = c .before .before .before .before .before .before .before .before .before .before .before .before .before .before .before in
     let file = s .args .file .now in
-    of-judgeable (decode file) (file-sound file (s .pre)) (c .before .before .before .before .before .before .before .laid .ensures)
+    of-judgeable (decode file) (file-sound file (judged-file file (s .pre))) (c .before .before .before .before .before .before .before .laid .ensures)
 
 returns : tie.Need-returns
 returns c =
     let s = c .before .before .before .before .before .before .before .before .before .before .before .before .before .before .before .before in
     let file = s .args .file .now in
-    c .judge-lent .ensures ∙ judged-is (decode file) (decoded-accepted file (s .pre)) (c .before .before .before .before .before .before .before .before .laid .ensures) (s .args .t2)
+    c .judge-lent .ensures ∙ judged-is (decode file) (judged-table file (s .pre)) (c .before .before .before .before .before .before .before .before .laid .ensures) (s .args .t2)
 
 pub judge-accepted-spec : {M : Type 1} → statement M
 judge-accepted-spec =
-    tie.close (tie.spec (λ c κs. (c .before .before .before .before .before .before .before .pre, ((refl, refl), (refl, refl, refl)))) judge-lent-requires returns)
+    tie.close
+    (tie.spec (λ c κs. let s = c .before .before .before .before .before .before .before in (judged-file (s .args .file .now) (s .pre), ((refl, refl), (refl, refl, refl)))) judge-lent-requires returns)

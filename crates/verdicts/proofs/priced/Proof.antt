@@ -3,13 +3,16 @@ use borrow.Author.Needs.{needs}
 use mathlib.Core.Path.{_≡_, refl}
 use native.Mathlib.Omega.{arith}
 use Rattle.rules.specs.File.{decode}
+use Rattle.fields.proofs.Steps.{sets-end}
 use Rattle.file.proofs.Reading.{file-sized, file-counts}
 use Rattle.verdicts.proofs.Accepted.{file-sound}
 use Rattle.verdicts.proofs.priced.Statement.{statement}
 use Rattle.verdicts.proofs.priced.Tie as tie
 
 sets-in-requires : tie.Need-sets-in-requires
-sets-in-requires c κs = let passed = c .before .before .before .pre in (file-counts _ passed .0, file-sized _ passed)
+sets-in-requires c κs =
+    let s = c .before .before .before in
+    (file-counts _ (s .pre) .0, sets-end (s .args .file .now) (file-sized _ (s .pre)))
 
 all-costs-requires : tie.Need-all-costs-requires
 unfolding decode
