@@ -87,7 +87,7 @@ pub fn salvage(bytes: &[u8], out: &mut [u8]) -> u64 {
 }
 
 /// The word of a salvage that is not refused.
-pub fn salvage_word(salvaged: Salvaged) -> u64 {
+fn salvage_word(salvaged: Salvaged) -> u64 {
     let Salvaged { promised, kept, stopped, length } = salvaged;
     u64::from(promised) << 16 | u64::from(kept) << 24 | u64::from(stopped) << 32 | (length as u64) << 40
 }

@@ -10,6 +10,8 @@ use compare_model::table::{Kind, SALVAGED_BIT};
 
 use crate::library::{Lent, Library};
 
+/// The most bytes of a refusal's text.
+const LONGEST_REASON: usize = 66;
 /// Places behind each lent buffer that no call may touch.
 const BEHIND: usize = 5;
 
@@ -67,7 +69,7 @@ pub struct Salvages {
     pub all_kept: u64,
     /// It stopped at a record.
     pub stopped: u64,
-    /// How many of these were salvaged before.
+    /// In how many of these the file was itself marked as salvaged.
     pub again: u64,
     pub refused: BTreeMap<u16, u64>,
     /// New files that were read, shown, cut and salvaged again.
@@ -301,11 +303,12 @@ impl Comparer {
     pub fn reason(&mut self, number: u8) -> Result<Vec<u8>, Difference> {
         let long = self.reason_into(number, 200)?;
         let text = long.out.get(..long.length).unwrap_or_default().to_vec();
-        if text.is_empty() || !text.iter().all(|byte| (b' '..=b'~').contains(byte)) {
+        let fits = (1..=LONGEST_REASON).contains(&text.len());
+        if !fits || !text.iter().all(|byte| (b' '..=b'~').contains(byte)) {
             return Err(Difference::of(
                 format!("ryb_reason of {number}"),
                 format!("{long:?}"),
-                "some printable text".to_owned(),
+                format!("a printable text of at most {LONGEST_REASON} bytes"),
             ));
         }
         for room in [0, text.len() - 1, text.len(), text.len() + 1] {

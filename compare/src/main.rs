@@ -73,7 +73,7 @@ fn summary(seed: u64, count: u64, tally: &Tally) -> String {
 
 fn salvages(of: &Salvages) -> String {
     format!(
-        "files salvaged: {} with all records, {} with some, {} of both not for the first time, {} refused; {} new files followed, {} salvaged ones not judged",
+        "files salvaged: {} with all records, {} with some, {} of both from salvaged files, {} refused; {} new files followed, {} salvaged ones not judged",
         of.all_kept,
         of.stopped,
         of.again,

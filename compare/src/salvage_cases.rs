@@ -265,7 +265,7 @@ fn shown(on: &mut Comparer, cut: &[u8], new: &[u8]) -> Outcome {
     view(on, new, tasks + 1)
 }
 
-/// No call judges a salvaged file, from no start and into no output, nor in a pair. But for its bit it would be one worsened.
+/// No call judges a salvaged file: from a late start, into no output, as one of a pair. But for its bit it would be one worsened.
 fn unjudged(on: &mut Comparer, file: &[u8]) -> Outcome {
     for (starts, places) in [(&[][..], TASKS), (&[u64::MAX], TASKS), (&[], 0)] {
         assert_eq!(on.judge(file, starts, Reaches::all(places))?, 18, "a salvaged file isn't judged");

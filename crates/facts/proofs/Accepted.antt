@@ -1,4 +1,4 @@
--- An accepted table is sound: one law, so that nobody opens the checks again. Assumes nothing.
+-- What the checks of a board leave of it; and an accepted table is sound: one law, so that nobody opens the checks again. Assumes nothing.
 use mathlib.Core.Path.{_≡_}
 use mathlib.Core.Bool.{true, false, not, _&&_}
 use Prim.Native.Nat.{ℕ, _≤_, _<_, _^_}
@@ -19,15 +19,9 @@ use Rattle.facts.proofs.Chain.{both-accepted, no-fault}
 use Rattle.laws.specs.Idioms.{within, Within}
 use Rattle.laws.proofs.Tests.{and-both, or-neither, inside}
 
-module _ (t : Table) (passed : isAccepted (checkTable t) ≡ true) where
-  board-passed : isAccepted (checkBoard t) ≡ true
-  unfolding checkTable
-  board-passed = both-accepted (checkBoard t) (checkTasks t) passed .0
+-- ---- the board
 
-  tasks-passed : isAccepted (checkTasks t) ≡ true
-  unfolding checkTable
-  tasks-passed = both-accepted (checkBoard t) (checkTasks t) passed .1
-
+module _ (t : Table) (board-passed : isAccepted (checkBoard t) ≡ true) where
   counts-link : Refusal
   counts-link = given 5 0 (countsFault (t .cores) (t .partitions) (t .tasks) (t .fourth))
 
@@ -48,7 +42,7 @@ module _ (t : Table) (passed : isAccepted (checkTable t) ≡ true) where
   unfolding counts-link countsFault fourthAllowed
   counts-hold = not-false _ (no-fault 4 0 (countsFault (t .cores) (t .partitions) (t .tasks) (t .fourth)) (first-links .0))
 
-  counts : (Within 1 8 (t .cores) × Within 1 16 (t .partitions)) × (Within 1 32 (t .tasks) × (t .fourth < 4))
+  pub counts : (Within 1 8 (t .cores) × Within 1 16 (t .partitions)) × (Within 1 32 (t .tasks) × (t .fourth < 4))
   counts =
       let fourth = and-both _ _ counts-hold in
       let tasks = and-both _ _ (fourth .0) in
@@ -62,6 +56,25 @@ module _ (t : Table) (passed : isAccepted (checkTable t) ≡ true) where
 
     set-facts : (1 ≤ setOf t p) × (setOf t p < 2 ^ t .partitions)
     set-facts = (omega (arith, eqb-false (setOf t p) 0 (set-clear .0)), ltb-true _ _ (not-false _ (set-clear .1)))
+
+  pub row-passed : isAccepted (checkRow (t .fourth) (t .timing)) ≡ true
+  unfolding row-link
+  row-passed = first-links .1
+
+  pub sets-passed : isAccepted (first 8 (λ p. setFault (t .partitions) (setOf t p)) (t .cores)) ≡ true
+  unfolding sets-link
+  sets-passed = board-links .1
+
+-- ---- the tasks, and all of it
+
+module _ (t : Table) (passed : isAccepted (checkTable t) ≡ true) where
+  board-passed : isAccepted (checkBoard t) ≡ true
+  unfolding checkTable
+  board-passed = both-accepted (checkBoard t) (checkTasks t) passed .0
+
+  tasks-passed : isAccepted (checkTasks t) ≡ true
+  unfolding checkTable
+  tasks-passed = both-accepted (checkBoard t) (checkTasks t) passed .1
 
   core-link : Refusal
   core-link = first 9 (λ k. coreFault (t .cores) (taskOf t k)) (t .tasks)
@@ -101,20 +114,19 @@ module _ (t : Table) (passed : isAccepted (checkTable t) ≡ true) where
           H-high = ltb-false _ _ requests-fit;
         }
 
-  row-passed : isAccepted (checkRow (t .fourth) (t .timing)) ≡ true
-  unfolding row-link
-  row-passed = first-links .1
-
   pub sound : Sound t
-  sound = record {
-    cores-in = counts .0 .0;
-    partitions-in = counts .0 .1;
-    tasks-in = counts .1 .0;
-    fourth-low = counts .1 .1;
-    figure-high = row-high (t .fourth) (t .timing) row-passed;
-    row = λ dram. sound-row (t .timing) (is-dram (t .fourth) (t .timing) row-passed dram);
-    slot-in = λ bus. sound-slot (t .timing) (is-bus (t .fourth) (t .timing) row-passed bus);
-    set-some = λ p low high. set-facts p low high .0;
-    set-high = λ p low high. set-facts p low high .1;
-    task-sound = task-facts;
-  }
+  sound =
+      let (places, rest) = counts t board-passed in
+      let row = row-passed t board-passed in
+      record {
+        cores-in = places .0;
+        partitions-in = places .1;
+        tasks-in = rest .0;
+        fourth-low = rest .1;
+        figure-high = row-high (t .fourth) (t .timing) row;
+        row = λ dram. sound-row (t .timing) (is-dram (t .fourth) (t .timing) row dram);
+        slot-in = λ bus. sound-slot (t .timing) (is-bus (t .fourth) (t .timing) row bus);
+        set-some = λ p low high. set-facts t board-passed p low high .0;
+        set-high = λ p low high. set-facts t board-passed p low high .1;
+        task-sound = task-facts;
+      }

@@ -11,11 +11,16 @@ use borrow.Author.Tests.{lt-ltb, le-ltb}
 use Rattle.rules.specs.declared.Table.{Table}
 use Rattle.rules.specs.Chain.{accepted, refused, isAccepted}
 use Rattle.rules.specs.Refusals.{checkTable}
-use Rattle.rules.specs.File.{trailer, body, encode}
+use Rattle.rules.specs.File.{setsAt, recordsAt, recordSize, fileLength, trailer, body, encode}
 use Rattle.rules.specs.Operations.{checkWrite, writing, outAfter}
 use Rattle.writer.specs.Answers.{wroteNothing, Wrote}
 use Rattle.laws.proofs.Bytes.{bytes-length}
 use Rattle.laws.proofs.Runs.{sets-after, sets-front}
+
+-- 46 + 2·8 + 29·32 is 990
+pub file-small : (form cores tasks : ℕ) → cores ≤ 8 → tasks ≤ 32 → fileLength form cores tasks ≤ 990
+unfolding fileLength recordsAt recordSize setsAt
+file-small form cores tasks c t = omega arith
 
 pub encode-length : (t : Table) → length (encode t) ≡ length (body t) + 12
 unfolding encode trailer
@@ -24,17 +29,17 @@ encode-length t = simp (length-append, bytes-length)
 module _ (t : Table) (out : List ℕ) where
   pub table-refused : isAccepted (checkTable t) ≡ false → Wrote t out (wroteNothing (checkTable t)) out
   unfolding writing outAfter checkWrite
-  table-refused e = record { answered = simp e; stored = simp e }
+  table-refused e = record { answered = simp e; stored = simp e; small = omega arith }
 
   module _ (passed : isAccepted (checkTable t) ≡ true) where
     pub no-room : length out < length (encode t) → Wrote t out (wroteNothing (refused 15 0)) out
     unfolding writing outAfter checkWrite
-    no-room h = record { answered = rw (passed, lt-ltb _ _ h); stored = rw (passed, lt-ltb _ _ h) }
+    no-room h = record { answered = rw (passed, lt-ltb _ _ h); stored = rw (passed, lt-ltb _ _ h); small = omega arith }
 
-    pub room : length (encode t) ≤ length out
+    pub room : length (encode t) ≤ length out → length (encode t) ≤ 990
         → Wrote t out (record { refusal = accepted; length = length (encode t) }) (encode t ++ drop (length (encode t)) out)
     unfolding writing outAfter checkWrite
-    room h = record { answered = rw (passed, le-ltb _ _ h); stored = rw (passed, le-ltb _ _ h) }
+    room h few = record { answered = rw (passed, le-ltb _ _ h); stored = rw (passed, le-ltb _ _ h); small = few }
 
   -- the body stored, then the trailer of what is stored
   pub file-stores : length (encode t) ≤ length out

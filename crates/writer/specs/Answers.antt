@@ -1,5 +1,5 @@
 -- What a refused writing answers, and what writing promises. Assumes nothing.
-use Prim.Native.Nat.{ℕ}
+use Prim.Native.Nat.{ℕ, _≤_}
 use mathlib.Core.Path.{_≡_}
 use mathlib.Core.List.{List}
 use Rattle.rules.specs.declared.Table.{Table}
@@ -15,3 +15,5 @@ wroteNothing refusal = record { refusal = refusal; length = 0 }
 pub record Wrote (t : Table) (before : List ℕ) (answer : Written) (after : List ℕ) : Type 0 where
   pub answered : answer ≡ writing t before
   pub stored : after ≡ outAfter t before
+  -- no file is longer (RULES 7.5)
+  pub small : answer .length ≤ 990
