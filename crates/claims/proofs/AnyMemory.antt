@@ -8,6 +8,6 @@ any-memory = record {
   fresh = case-fresh;
   from-start = case-start;
   from-older = case-carried;
-  of-table = λ t k task. case-fit t (task .table) k (task .first) (task .last);
-  of-two-tables = λ older newer worse. case-worse older newer (worse .older-accepted) (worse .newer-accepted) (worse .alike);
+  of-table = λ t k task. case-fit t (task .table .accepted) k (task .first) (task .last);
+  of-two-tables = λ older newer worse. case-worse older newer (worse .older-judged .accepted) (worse .newer-judged .accepted) (worse .alike);
 }

@@ -7,6 +7,7 @@ use native.Mathlib.Omega.{arith}
 use borrow.Author.Tests.{eqb-true}
 use Rattle.rules.specs.declared.Refusal.{Refusal}
 use Rattle.rules.specs.declared.Table.{Table}
+use Rattle.rules.specs.Kinds.{isSalvaged}
 use Rattle.rules.specs.Chain.{accepted, isAccepted}
 use Rattle.rules.specs.Refusals.{checkTable, askedFault, lateStart, highStart, checkJudged, checkStart, checkOne}
 use Rattle.rules.specs.Operations.{checkBoth}
@@ -33,7 +34,7 @@ module _ (t : Table) where
 
   judged-gives : Gives NotZero (checkJudged t)
   unfolding checkJudged
-  judged-gives = wider table-number (table-gives t)
+  judged-gives = both-give (wider table-number (table-gives t)) (given-gives 18 0 (isSalvaged t) (omega arith))
 
   pub one-plain : (k start : ℕ) → Plain (checkOne t k start)
   unfolding checkOne checkStart

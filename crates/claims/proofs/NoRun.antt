@@ -20,7 +20,7 @@ use Rattle.facts.proofs.Accepted.{sound}
 use Rattle.facts.proofs.Memory.{response-worse}
 use Rattle.facts.proofs.Instance.{equation-of}
 use Rattle.facts.proofs.Points.{fresh-right}
-use Rattle.claims.specs.Point2.{AcceptedTask, HoldsFresh}
+use Rattle.claims.specs.Point2.{JudgedTask, HoldsFresh}
 use Rattle.claims.specs.NoRun.{formerRun, formerIntra, formerMemory, formerF, formerlyAndNow, NoRun}
 use Rattle.claims.proofs.Point2.{fresh-judgeable, holds-fresh}
 use Rattle.claims.proofs.Spared.{no-hit, some-hit, RD-falls, RD-stays, RD-no-more, JD-stays}
@@ -39,10 +39,10 @@ under-solved : {f : ℕ → ℕ} {d R : ℕ} {v : Outcome} → R ≤ d → Corre
 under-solved fits (least {R = S} m) (low h) = (S, (m .solution, h))
 under-solved fits (none q) (past beyond) = absurd (omega arith)
 
-module _ (t : Table) (k : ℕ) (task : AcceptedTask t k) where
+module _ (t : Table) (k : ℕ) (task : JudgedTask t k) where
   no-later : (R : ℕ) → Solution (formerF t k) 1 (latest (taskOf t k)) R → HoldsFresh t k R
   no-later R was =
-      let table = task .table in
+      let table = task .table .accepted in
       let right = fresh-right t table k (task .first) (task .last) in
       let under = right-under (equation-of t table k (task .first) (task .last)) right R (was .from) (omega (arith, F-no-more t k R, was .solves)) in
       let (S, now) = under-solved (was .upto) right under in

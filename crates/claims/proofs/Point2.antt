@@ -23,15 +23,16 @@ use Rattle.rules.specs.Tasks.{latest, taskOf, coreOf, higher}
 use Rattle.rules.specs.Board.{memoryOf}
 use Rattle.rules.specs.Response.{F, request, job, decided, decider}
 use Rattle.rules.specs.Judgement.{startOf, withDelay, roundsOf, judge, boundOf}
-use Rattle.rules.specs.Chain.{accepted, isAccepted}
-use Rattle.rules.specs.Refusals.{checkOne, checkAll}
+use Rattle.rules.specs.Kinds.{isSalvaged}
+use Rattle.rules.specs.Chain.{accepted, isAccepted, given}
+use Rattle.rules.specs.Refusals.{checkTable, checkJudged, checkOne, checkAll}
+use Rattle.facts.proofs.Chain.{both-accepted, no-fault}
 use Rattle.rules.specs.Operations.{judgeOne, judgeAll, freshStarts}
-use Rattle.facts.proofs.Starts.{Judgeable, judged-accepted, accepted-judged, one-judgeable, judgeable-one}
+use Rattle.facts.proofs.Starts.{Judgeable, one-judgeable, judgeable-one}
 use Rattle.facts.proofs.Instance.{equation-of}
 use Rattle.facts.proofs.AllStarts.{none-refused, all-judgeable, all-answered, fresh-starts, all-fresh}
 use Rattle.facts.proofs.Points.{fresh-right, start-right}
-use Rattle.claims.specs.Files.{AcceptedTable}
-use Rattle.claims.specs.Point2.{AcceptedTask, taskAnswer, Decided, Right, PointTwo, HoldsFresh, SafeSide}
+use Rattle.claims.specs.Point2.{MayBeJudged, JudgedTask, taskAnswer, Decided, Right, PointTwo, HoldsFresh, SafeSide}
 use Rattle.claims.proofs.NoRefusal.{one-plain}
 
 -- ---- a verdict with its delay, by what is right of the verdict
@@ -91,11 +92,20 @@ judged-right t k given from r = record {
   decided = λ R by e. rw (delay-of (decider t k) (roundsOf t k given .verdict) R by e) (decided-at t k R);
 }
 
-pub fresh-judgeable : (t : Table) (k : ℕ) → AcceptedTask t k → Judgeable t k 0
+-- what may be judged is what the checks before a judgement let pass
+pub may : (t : Table) → MayBeJudged t → isAccepted (checkJudged t) ≡ true
+unfolding checkJudged
+may t m = simp (m .accepted, m .not-salvaged)
+
+pub may-back : (t : Table) → isAccepted (checkJudged t) ≡ true → MayBeJudged t
+unfolding checkJudged
+may-back t passed = let (table, last) = both-accepted (checkTable t) (given 18 0 (isSalvaged t)) passed in record { accepted = table; not-salvaged = no-fault 17 0 (isSalvaged t) last }
+
+pub fresh-judgeable : (t : Table) (k : ℕ) → JudgedTask t k → Judgeable t k 0
 fresh-judgeable t k task = record {
-  judged = accepted-judged t (task .table);
+  judged = may t (task .table);
   number = record { low = task .first; high = task .last };
-  allowed = fresh-allowed (equation-of t (task .table) k (task .first) (task .last));
+  allowed = fresh-allowed (equation-of t (task .table .accepted) k (task .first) (task .last));
 }
 
 module _ (t : Table) (k start : ℕ) where
@@ -115,15 +125,15 @@ module _ (t : Table) (k start : ℕ) where
   unfolding roundsOf
   right-from j = judged-right t k start (startOf t k start) (start-right t k start j .right)
 
-module _ (t : Table) (k : ℕ) (task : AcceptedTask t k) where
+module _ (t : Table) (k : ℕ) (task : JudgedTask t k) where
   one-right : Right t k 1 (judgeOne t k 0 .answer .verdict)
-  one-right = rw (one-answered t k 0 (fresh-judgeable t k task)) (judged-right t k 0 1 (fresh-right t (task .table) k (task .first) (task .last)))
+  one-right = rw (one-answered t k 0 (fresh-judgeable t k task)) (judged-right t k 0 1 (fresh-right t (task .table .accepted) k (task .first) (task .last)))
 
 -- ---- and of all
 
-all-passed : (t : Table) → AcceptedTable t → judgeAll t freshStarts .refusal ≡ accepted
+all-passed : (t : Table) → MayBeJudged t → judgeAll t freshStarts .refusal ≡ accepted
 unfolding judgeAll
-all-passed t table = none-refused t table freshStarts (all-fresh t table)
+all-passed t table = none-refused t (may t table) freshStarts (all-fresh t (table .accepted))
 
 module _ (t : Table) (starts : List ℕ) (passed : isAccepted (judgeAll t starts .refusal) ≡ true) (k : ℕ) (low : 1 ≤ k) (high : k ≤ t .tasks) where
   all-open : isAccepted (checkAll t (entry 0 starts)) ≡ true
@@ -137,7 +147,7 @@ module _ (t : Table) (starts : List ℕ) (passed : isAccepted (judgeAll t starts
   judgeable = all-judgeable t starts all-open k low high
 
 -- the fresh answers are those of each task alone
-pub fresh-answer : (t : Table) (k : ℕ) → AcceptedTask t k → taskAnswer k (judgeAll t freshStarts .answers) ≡ judgeOne t k 0 .answer
+pub fresh-answer : (t : Table) (k : ℕ) → JudgedTask t k → taskAnswer k (judgeAll t freshStarts .answers) ≡ judgeOne t k 0 .answer
 fresh-answer t k task =
     let passed : isAccepted (judgeAll t freshStarts .refusal) ≡ true = rw (all-passed t (task .table)) in
     rw (answered t freshStarts passed k (task .first) (task .last), fresh-starts k, one-answered t k 0 (fresh-judgeable t k task))
@@ -156,8 +166,8 @@ point-two = record {
 -- ---- the safe side
 
 module _ (t : Table) (k start : ℕ) (j : Judgeable t k start) where
-  task-of : AcceptedTask t k
-  task-of = record { table = judged-accepted t (j .judged); first = j .number .low; last = j .number .high }
+  task-of : JudgedTask t k
+  task-of = record { table = may-back t (j .judged); first = j .number .low; last = j .number .high }
 
   pub holds-fresh : (R : ℕ) → Solution (F t k) 1 (latest (taskOf t k)) R → (v : Verdict) → judgeOne t k 0 .answer .verdict ≡ v → HoldsFresh t k R
   holds-fresh R solution (Holds bound by) e =
@@ -169,7 +179,7 @@ module _ (t : Table) (k start : ℕ) (j : Judgeable t k start) where
   safe R by e =
       let found = right-from t k start j .holds R .0 (by, e) .solution in
       let task = task-of in
-      let low = equation-of t (task .table) k (task .first) (task .last) .some in
+      let low = equation-of t (task .table .accepted) k (task .first) (task .last) .some in
       holds-fresh R (record { from = omega (arith, found .from); upto = found .upto; solves = found .solves }) (judgeOne t k 0 .answer .verdict) refl
 
 pub safe-side : SafeSide

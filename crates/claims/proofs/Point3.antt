@@ -21,7 +21,7 @@ use Rattle.rules.specs.Response.{F, decider}
 use Rattle.rules.specs.Judgement.{withDelay, roundsOf, judge}
 use Rattle.rules.specs.Order.{worsens}
 use Rattle.rules.specs.Chain.{accepted, isAccepted}
-use Rattle.rules.specs.Refusals.{checkTable, checkJudged}
+use Rattle.rules.specs.Refusals.{checkJudged}
 use Rattle.rules.specs.Operations.{judgeOne, judgeAll, answersFrom, fresh, freshStarts, olderBound, olderBounds, verdicts, checkBoth, isCarried, rejudging}
 use Rattle.rules.specs.Figures.{two-solutions}
 use Rattle.rules.proofs.EveryRule.{every-rule}
@@ -33,11 +33,10 @@ use Rattle.facts.proofs.AllStarts.{none-refused, allowed-answers, fresh-starts,
 use Rattle.facts.proofs.Points.{start-right, start-limit, carries, carried-judgeable}
 use Rattle.facts.proofs.Worsened.{worsened}
 use Rattle.facts.proofs.Again.{rejudged-verdicts}
-use Rattle.claims.specs.Files.{AcceptedTable}
-use Rattle.claims.specs.Point2.{AcceptedTask, taskAnswer}
+use Rattle.claims.specs.Point2.{JudgedTask, taskAnswer}
 use Rattle.claims.specs.Point3.{NewerWorse, outcomeOf, Counted, AnsweredFromOlder, FromOlder, PointThree, StartsMatter}
 use Rattle.claims.proofs.NoRefusal.{both-tables-plain}
-use Rattle.claims.proofs.Point2.{judged-right, one-passed, one-answered, one-open, answered, fresh-answer, fresh-judgeable}
+use Rattle.claims.proofs.Point2.{may, judged-right, one-passed, one-answered, one-open, answered, fresh-answer, fresh-judgeable}
 
 -- ---- the rounds from a start that is not refused
 
@@ -58,9 +57,9 @@ counted t k start j =
 
 -- ---- fresh answers, all together
 
-fresh-answers : (t : Table) → AcceptedTable t → judgeAll t freshStarts .answers ≡ answersFrom t fresh
+fresh-answers : (t : Table) → isAccepted (checkJudged t) ≡ true → judgeAll t freshStarts .answers ≡ answersFrom t fresh
 fresh-answers t table =
-    allowed-answers t table freshStarts (all-fresh t table) ∙ answers-same t (entry 0 freshStarts) fresh (λ k low high. fresh-starts k)
+    allowed-answers t table freshStarts (all-fresh t (judged-accepted t table)) ∙ answers-same t (entry 0 freshStarts) fresh (λ k low high. fresh-starts k)
 
 -- what was judged, by its two parts
 judged-both : {j : Judged} {r : Refusal} {a : Answer} → j .refusal ≡ r → j .answer ≡ a → j ≡ record { refusal = r; answer = a }
@@ -71,16 +70,16 @@ judged-both e f = rw (e, f)
 module _ (older newer : Table) (w : NewerWorse older newer) where
   passed : judgeAll newer (olderBounds older) .refusal ≡ accepted
   unfolding judgeAll
-  passed = none-refused newer (w .newer-accepted) (olderBounds older) (all-carried older newer (w .older-accepted) (w .newer-accepted) (w .alike))
+  passed = none-refused newer (may newer (w .newer-judged)) (olderBounds older) (all-carried older newer (w .older-judged .accepted) (w .newer-judged .accepted) (w .alike))
 
   carried : judgeAll newer (olderBounds older) .answers ≡ answersFrom newer (olderBound older)
   carried =
-      allowed-answers newer (w .newer-accepted) (olderBounds older) (all-carried older newer (w .older-accepted) (w .newer-accepted) (w .alike))
-      ∙ carried-answers older newer (w .older-accepted) (w .newer-accepted) (w .alike)
+      allowed-answers newer (may newer (w .newer-judged)) (olderBounds older) (all-carried older newer (w .older-judged .accepted) (w .newer-judged .accepted) (w .alike))
+      ∙ carried-answers older newer (w .older-judged .accepted) (w .newer-judged .accepted) (w .alike)
 
   both-accept : isAccepted (checkBoth older newer) ≡ true
-  unfolding checkBoth checkJudged
-  both-accept = rw (w .older-accepted, w .newer-accepted)
+  unfolding checkBoth
+  both-accept = rw (may older (w .older-judged), may newer (w .newer-judged))
 
   again-accepted : rejudging older newer .refusal ≡ accepted
   unfolding rejudging
@@ -95,33 +94,33 @@ module _ (older newer : Table) (w : NewerWorse older newer) where
   again-answers = rw (both-accept, w .alike) (sym carried)
 
   same : verdicts (judgeAll newer (olderBounds older) .answers) ≡ verdicts (judgeAll newer freshStarts .answers)
-  same = rw (← again-answers, fresh-answers newer (w .newer-accepted)) (rejudged-verdicts older newer both-accept)
+  same = rw (← again-answers, fresh-answers newer (may newer (w .newer-judged))) (rejudged-verdicts older newer both-accept)
 
   module _ (k : ℕ) (low : 1 ≤ k) (high : k ≤ newer .tasks) where
     in-older : k ≤ older .tasks
     in-older = rw (worsened older newer (w .alike) .board .tasks) high
 
-    task : AcceptedTask newer k
-    task = record { table = w .newer-accepted; first = low; last = high }
+    task : JudgedTask newer k
+    task = record { table = w .newer-judged; first = low; last = high }
 
     start : Judgeable newer k (olderBound older k)
-    start = carried-judgeable older newer (w .older-accepted) (w .newer-accepted) (w .alike) k low in-older
+    start = carried-judgeable older newer (w .older-judged .accepted) (w .newer-judged .accepted) (w .alike) k low in-older (may newer (w .newer-judged))
 
     answer-is : taskAnswer k (judgeAll newer (olderBounds older) .answers) ≡ judge newer k (olderBound older k)
     answer-is =
         answered newer (olderBounds older) (rw passed) k low high
-        ∙ ap (judge newer k) (older-start older (w .older-accepted) k low in-older)
+        ∙ ap (judge newer k) (older-start older (w .older-judged .accepted) k low in-older)
 
     fresh-is : taskAnswer k (judgeAll newer freshStarts .answers) ≡ judge newer k 0
     fresh-is = fresh-answer newer k task ∙ one-answered newer k 0 (fresh-judgeable newer k task)
 
     no-more : judge newer k (olderBound older k) .rounds ≤ judge newer k 0 .rounds
     unfolding judge roundsOf
-    no-more = carries older newer (w .older-accepted) (w .newer-accepted) (w .alike) k low in-older .no-more
+    no-more = carries older newer (w .older-judged .accepted) (w .newer-judged .accepted) (w .alike) k low in-older .no-more
 
     correct : outcome.Correct (F newer k) 1 (latest (taskOf newer k)) (roundsOf newer k (olderBound older k) .verdict)
     unfolding roundsOf
-    correct = carries older newer (w .older-accepted) (w .newer-accepted) (w .alike) k low in-older .right
+    correct = carries older newer (w .older-judged .accepted) (w .newer-judged .accepted) (w .alike) k low in-older .right
 
     from-bound : AnsweredFromOlder older newer k (taskAnswer k (judgeAll newer (olderBounds older) .answers))
     from-bound = rw answer-is (record {
@@ -147,9 +146,9 @@ module _ (older newer : Table) (w : NewerWorse older newer) where
 
 after-any : (older newer : Table) → isAccepted (rejudging older newer .refusal) ≡ true
     → verdicts (rejudging older newer .answers) ≡ verdicts (judgeAll newer freshStarts .answers)
-unfolding rejudging checkBoth checkJudged
+unfolding rejudging checkBoth
 after-any older newer passed =
-    rw (fresh-answers newer (both-accepted (checkTable older) (checkTable newer) passed .1)) (rejudged-verdicts older newer passed)
+    rw (fresh-answers newer (both-accepted (checkJudged older) (checkJudged newer) passed .1)) (rejudged-verdicts older newer passed)
 
 pub point-three : PointThree
 point-three = record {

@@ -61,7 +61,7 @@ module _ (t : Table) (sets : List ℕ) (on : OnBus t sets) where
   all-alike starts = rw (checks-alike (entry 0 starts), answers-alike (entry 0 starts))
 
   text-alike : (answers : List Answer) → tableText other answers ≡ tableText t answers
-  unfolding tableText tableLines
+  unfolding tableText tableLines checkJudged
   text-alike answers = rw same-check
 
 pub sets-aside : SetsAside

@@ -9,7 +9,7 @@ use Rattle.equation.specs.Carry.{carried, Carries}
 use Rattle.rules.specs.declared.Table.{Table}
 use Rattle.rules.specs.Tasks.{C, latest}
 use Rattle.facts.specs.Steady.{Case, equationOf, countsIn, caseOf, Fit, Worse}
-use Rattle.claims.specs.Point2.{AcceptedTask}
+use Rattle.claims.specs.Point2.{JudgedTask}
 use Rattle.claims.specs.Point3.{NewerWorse}
 
 pub record AnyMemory : Type 0 where
@@ -22,6 +22,6 @@ pub record AnyMemory : Type 0 where
   pub from-older : (older newer : Case) → Fit older → Fit newer → Worse older newer
       → Carries (equationOf newer) (C (newer .task)) (latest (newer .task)) (countsIn newer)
       (carried (solve (equationOf older) (C (older .task)) (latest (older .task)) 0 .verdict))
-  -- every task of an accepted table is such a case, and so are those of two tables of which the newer is the older one worsened
-  pub of-table : (t : Table) (k : ℕ) → AcceptedTask t k → Fit (caseOf t k)
+  -- every task of a table that may be judged is such a case, and so are those of two tables of which the newer is the older one worsened
+  pub of-table : (t : Table) (k : ℕ) → JudgedTask t k → Fit (caseOf t k)
   pub of-two-tables : (older newer : Table) → NewerWorse older newer → (k : ℕ) → 1 ≤ k → k ≤ older .tasks → Worse (caseOf older k) (caseOf newer k)

@@ -20,7 +20,7 @@ use Rattle.rules.specs.Board.{Memory, busMemory, memoryOf}
 use Rattle.rules.specs.Response.{response}
 use Rattle.rules.specs.Figures.{Figure, value, AllAgree, sharing2, sharing-and-apart}
 use Rattle.claims.specs.Files.{AcceptedTable}
-use Rattle.claims.specs.Point2.{AcceptedTask, HoldsFresh}
+use Rattle.claims.specs.Point2.{JudgedTask, HoldsFresh}
 
 -- the former rule, of every m, 0 too; it stands nowhere else
 unfoldable pub formerRun : Row → ℕ → Cycles
@@ -73,5 +73,5 @@ pub record NoRun : Type 0 where
   pub RD-stays : (t : Table) (p : ℕ) → ¬ Spared t p → formerMemory t p .perRequest ≡ memoryOf t p .perRequest
   pub JD-stays : (t : Table) (p x : ℕ) → formerMemory t p .perJob x ≡ memoryOf t p .perJob x
   -- so a task that had a bound has one, and no later: it holds no later than any time that satisfied its equation
-  pub no-later : (t : Table) (k : ℕ) → AcceptedTask t k → (R : ℕ) → Solution (formerF t k) 1 (latest (taskOf t k)) R → HoldsFresh t k R
+  pub no-later : (t : Table) (k : ℕ) → JudgedTask t k → (R : ℕ) → Solution (formerF t k) 1 (latest (taskOf t k)) R → HoldsFresh t k R
   pub figures : AllAgree formerlyAndNow

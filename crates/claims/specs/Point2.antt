@@ -2,7 +2,7 @@
 -- of delay figures is the figures' list of the crate `rules`; what it says of files is in `Files`.) Assumes nothing.
 use Prim.Native.Nat.{ℕ, _≤_}
 use mathlib.Core.Path.{_≡_}
-use mathlib.Core.Bool.{true}
+use mathlib.Core.Bool.{true, false}
 use mathlib.Core.List.{List}
 use mathlib.Core.Logic.{_↔_}
 use Rattle.equation.specs.Outcome.{Solution, Smallest}
@@ -13,6 +13,7 @@ use Rattle.rules.specs.declared.Delay.{Delay}
 use Rattle.rules.specs.declared.Delay.the-variants.{Request}
 use Rattle.rules.specs.declared.Verdict.the-variants.{Holds, Misses}
 use Rattle.laws.specs.Idioms.{entry}
+use Rattle.rules.specs.Kinds.{isSalvaged}
 use Rattle.rules.specs.Units.{ps}
 use Rattle.rules.specs.Tasks.{latest, taskOf, coreOf, higher}
 use Rattle.rules.specs.Board.{memoryOf}
@@ -22,9 +23,14 @@ use Rattle.rules.specs.Chain.{accepted, isAccepted}
 use Rattle.rules.specs.Operations.{judgeOne, judgeAll, freshStarts}
 use Rattle.claims.specs.Files.{AcceptedTable}
 
--- a task of an accepted table
-pub record AcceptedTask (t : Table) (k : ℕ) : Type 0 where
-  pub table : AcceptedTable t
+-- a table that may be judged: it is accepted and is not salvaged (RULES 7.8). Points 2 and 3 speak of no other
+pub record MayBeJudged (t : Table) : Type 0 where
+  pub accepted : AcceptedTable t
+  pub not-salvaged : isSalvaged t ≡ false
+
+-- a task of such a table
+pub record JudgedTask (t : Table) (k : ℕ) : Type 0 where
+  pub table : MayBeJudged t
   pub first : 1 ≤ k
   pub last : k ≤ t .tasks
 
@@ -46,16 +52,16 @@ pub record Right (t : Table) (k from : ℕ) (v : Verdict) : Type 0 where
   pub misses : (v ≡ Misses) ↔ ((R : ℕ) → ¬ Solution (F t k) from (latest (taskOf t k)) R)
   pub decided : (R : ℕ) (by : Delay) → v ≡ Holds (ps R) by → Decided t k R by
 
--- point 2: RULES 5.5 of every task of an accepted table, judged fresh
+-- point 2: RULES 5.5 of every task of a table that may be judged, judged fresh
 pub record PointTwo : Type 0 where
   -- a fresh start is never refused
-  pub one-fresh : (t : Table) (k : ℕ) → AcceptedTask t k → judgeOne t k 0 .refusal ≡ accepted
-  pub all-fresh : (t : Table) → AcceptedTable t → judgeAll t freshStarts .refusal ≡ accepted
+  pub one-fresh : (t : Table) (k : ℕ) → JudgedTask t k → judgeOne t k 0 .refusal ≡ accepted
+  pub all-fresh : (t : Table) → MayBeJudged t → judgeAll t freshStarts .refusal ≡ accepted
   -- it holds with the bound that the rules name
-  pub bound : (t : Table) (k : ℕ) → AcceptedTask t k → (R : ℕ)
+  pub bound : (t : Table) (k : ℕ) → JudgedTask t k → (R : ℕ)
       → ((by : Delay) × (judgeOne t k 0 .answer .verdict ≡ Holds (ps R) by)) ↔ IsBound t k R
-  pub one : (t : Table) (k : ℕ) → AcceptedTask t k → Right t k 1 (judgeOne t k 0 .answer .verdict)
-  pub all : (t : Table) (k : ℕ) → AcceptedTask t k → Right t k 1 (taskAnswer k (judgeAll t freshStarts .answers) .verdict)
+  pub one : (t : Table) (k : ℕ) → JudgedTask t k → Right t k 1 (judgeOne t k 0 .answer .verdict)
+  pub all : (t : Table) (k : ℕ) → JudgedTask t k → Right t k 1 (taskAnswer k (judgeAll t freshStarts .answers) .verdict)
   -- RULES 6.2: from a given start
   pub one-from : (t : Table) (k start : ℕ) → isAccepted (judgeOne t k start .refusal) ≡ true
       → Right t k (startOf t k start) (judgeOne t k start .answer .verdict)

@@ -17,13 +17,12 @@ use Rattle.rules.specs.Judgement.{startOf}
 use Rattle.rules.specs.Order.{worsens}
 use Rattle.rules.specs.Chain.{accepted, isAccepted}
 use Rattle.rules.specs.Operations.{judgeOne, judgeAll, freshStarts, olderBound, olderBounds, verdicts, rejudging}
-use Rattle.claims.specs.Files.{AcceptedTable}
-use Rattle.claims.specs.Point2.{Right, taskAnswer}
+use Rattle.claims.specs.Point2.{MayBeJudged, Right, taskAnswer}
 
--- the premise: both tables are accepted, and the newer is the older one worsened (RULES 6.4)
+-- the premise: both tables may be judged, and the newer is the older one worsened (RULES 6.4)
 pub record NewerWorse (older newer : Table) : Type 0 where
-  pub older-accepted : AcceptedTable older
-  pub newer-accepted : AcceptedTable newer
+  pub older-judged : MayBeJudged older
+  pub newer-judged : MayBeJudged newer
   pub alike : worsens older newer ≡ true
 
 -- what the rounds ended in, by the verdict
