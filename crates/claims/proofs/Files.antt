@@ -10,7 +10,7 @@ use borrow.Author.Tests.{le-ltb, ltb-false}
 use Rattle.rules.specs.declared.Table.{Table}
 use Rattle.rules.specs.Chain.{accepted, isAccepted, given}
 use Rattle.rules.specs.Refusals.{checkTable}
-use Rattle.rules.specs.File.{encode, checkWhole, decode}
+use Rattle.rules.specs.File.{tasksIn, formIn, encode, checkWhole, decode}
 use Rattle.rules.specs.Operations.{emptyTable, checkFile, reading, checkWrite, writing, outAfter}
 use Rattle.laws.specs.Bytes.{Bytes}
 use Rattle.laws.proofs.Tests.{fails}
@@ -72,11 +72,12 @@ empty-shape : Shape emptyTable
 empty-shape = record { figures = refl; sets = refl; tasks = refl }
 
 pub return : Return
+unfolding decode
 return = record {
   read-written = written-read-back;
   written-read = λ s b ok. read-written-back s ok b;
-  unused-zero = λ s. read-either (λ t. cleared t ≡ t) s (λ ok. already-cleared s) empty-cleared;
-  shape-read = λ s. read-either Shape s (λ ok. shape-of-read s (decoded-accepted s ok)) empty-shape;
+  unused-zero = λ s. read-either (λ t. cleared t ≡ t) s (λ ok. already-cleared s (formIn s) (tasksIn s)) empty-cleared;
+  shape-read = λ s. read-either Shape s (λ ok. shape-of-read s (formIn s) (tasksIn s) (decoded-accepted s ok)) empty-shape;
 }
 
 -- ---- writing into a lent buffer

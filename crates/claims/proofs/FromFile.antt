@@ -1,12 +1,15 @@
--- The table that is read from a whole file is written as that file. Assumes nothing.
-use mathlib.Core.Path.{_≡_, refl, sym}
-use mathlib.Core.List.{List, [], _∷_, map}
+-- The table of the first records of a file that reaches past them: its bytes are those of the file. So the table that is read from a whole file is
+-- written as that file. Assumes nothing.
+use mathlib.Core.Path.{_≡_, refl, sym, _∙_}
+use mathlib.Core.List.{List, [], _∷_, _++_, map}
 use Prim.Native.Nat.{ℕ, _+_, _*_, _-_, _≤_}
 use native.Mathlib.Omega.{arith}
 use lib.ListN.{length, take}
+use lib.Seq.{take-add}
 use Rattle.rules.specs.declared.Task.{Task}
+use Rattle.rules.specs.declared.Table.{Table}
 use Rattle.rules.specs.Tasks.{noTask}
-use Rattle.rules.specs.File.{setsAt, recordsAt, recordSize, recordTask, body, encode, coresIn, partitionsIn, tasksIn, formIn, recordIn, decode}
+use Rattle.rules.specs.File.{setsAt, recordsAt, recordSize, recordBytes, recordTask, body, encode, coresIn, partitionsIn, tasksIn, formIn, recordIn, firstTasks, decode}
 use Rattle.facts.proofs.Accepted.{sound}
 use Rattle.laws.specs.Idioms.{from, filled, numberIn, part}
 use Rattle.laws.specs.Bytes.{Bytes}
@@ -17,16 +20,7 @@ use Rattle.laws.proofs.Rows.{written-back}
 use Rattle.claims.proofs.Codes.{number-code, task-code}
 use Rattle.arrival.proofs.Came.{Whole}
 use Rattle.claims.proofs.Whole.{before, before-and-trailer}
-use Rattle.claims.proofs.Places.{header, figureBytes, setBytes, taskBytes, body-parts, figure-ladder, set-ladder, record-ladder, records-after-sets, trailer-after-records, parts-joined}
-
-header-bytes : (l : List ℕ) → 4 ≤ length l → coresIn l ∷ partitionsIn l ∷ tasksIn l ∷ formIn l ∷ [] ≡ take 4 l
-header-bytes [] h = absurd (omega arith)
-header-bytes (a ∷ []) h = absurd (omega arith)
-header-bytes (a ∷ b ∷ []) h = absurd (omega arith)
-header-bytes (a ∷ b ∷ c ∷ []) h = absurd (omega arith)
-header-bytes (a ∷ b ∷ c ∷ d ∷ l) h = refl
-
--- ---- the table that is read
+use Rattle.claims.proofs.Places.{header, figureBytes, setBytes, taskBytes, body-parts, figure-ladder, set-ladder, record-ladder, sets-after-figures, records-after-sets, trailer-after-records, parts-joined}
 
 module _ (s : List ℕ) where
   setIn : ℕ → ℕ
@@ -35,27 +29,66 @@ module _ (s : List ℕ) where
   taskIn : ℕ → Task
   taskIn k = recordTask (recordIn s k)
 
-  pub already-cleared : cleared (decode s) ≡ decode s
-  unfolding cleared decode setIn taskIn
+-- ---- the table of the first n records
+
+module _ (s : List ℕ) (fourth n : ℕ) where
+  abbrev firsts : Table
+  firsts = firstTasks s fourth n
+
+  pub already-cleared : cleared firsts ≡ firsts
+  unfolding cleared setIn taskIn
   already-cleared = λ j. record {
     cores = coresIn s;
     partitions = partitionsIn s;
-    tasks = tasksIn s;
-    fourth = formIn s;
-    timing = decode s .timing;
-    sets = filled 8 0 (take-filled 8 0 setIn 0 (coresIn s) j);
-    task = filled 32 noTask (take-filled 32 noTask taskIn 1 (tasksIn s) j);
+    tasks = n;
+    fourth = fourth;
+    timing = firsts .timing;
+    sets = filled 8 0 (take-filled 8 0 (setIn s) 0 (coresIn s) j);
+    task = filled 32 noTask (take-filled 32 noTask (taskIn s) 1 n j);
   }
 
-  pub shape-of-read : AcceptedTable (decode s) → Shape (decode s)
-  unfolding decode setIn taskIn from
+  pub shape-of-read : AcceptedTable firsts → Shape firsts
+  unfolding setIn taskIn from
   shape-of-read passed = record {
     figures = refl;
-    sets = filled-length 8 0 (map setIn (from 0 (coresIn s))) (rw (length-map-from setIn (coresIn s) 0) (sound (decode s) passed .cores-in .high));
-    tasks = filled-length 32 noTask (map taskIn (from 1 (tasksIn s))) (rw (length-map-from taskIn (tasksIn s) 1) (sound (decode s) passed .tasks-in .high));
+    sets = filled-length 8 0 (map (setIn s) (from 0 (coresIn s))) (rw (length-map-from (setIn s) (coresIn s) 0) (sound firsts passed .cores-in .high));
+    tasks = filled-length 32 noTask (map (taskIn s) (from 1 n)) (rw (length-map-from (taskIn s) n 1) (sound firsts passed .tasks-in .high));
   }
 
--- ---- its bytes
+-- its bytes, where its fourth byte gives records as the file's does, and the file reaches past them
+module _ {s : List ℕ} (b : Bytes s) (fourth n : ℕ) (same : recordBytes fourth ≡ recordBytes (formIn s))
+    (reach : recordsAt (formIn s) (coresIn s) + recordSize (formIn s) * n ≤ length s) where
+  figures-read : figureBytes (firsts s fourth n) ≡ part s 4 30
+  unfolding figureBytes
+  figures-read =
+      written-back (number-code 2) s figure-ladder 15 b
+      (omega (arith, records-after-sets (formIn s) (coresIn s), sets-after-figures (formIn s)))
+
+  sets-read : setBytes (firsts s fourth n) ≡ part s (setsAt (formIn s)) (2 * coresIn s)
+  unfolding setBytes setIn
+  sets-read =
+      rw (take-filled 8 0 (setIn s) 0 (coresIn s))
+      (written-back (number-code 2) s (set-ladder (formIn s)) (coresIn s) b (omega (arith, records-after-sets (formIn s) (coresIn s))))
+
+  tasks-read : taskBytes (firsts s fourth n) ≡ part s (recordsAt (formIn s) (coresIn s)) (recordSize (formIn s) * n)
+  unfolding taskBytes taskIn recordIn
+  tasks-read =
+      rw (same, take-filled 32 noTask (taskIn s) 1 n)
+      (written-back (task-code (formIn s)) s (record-ladder (formIn s) (coresIn s)) n b reach)
+
+  pub body-read : body (firsts s fourth n) ≡ header (firsts s fourth n) ++ part s 4 (recordsAt (formIn s) (coresIn s) + recordSize (formIn s) * n - 4)
+  body-read =
+      rw (body-parts (firsts s fourth n), figures-read, sets-read, tasks-read)
+      (parts-joined (formIn s) (coresIn s) (recordSize (formIn s) * n) s (header (firsts s fourth n)))
+
+-- ---- and of a whole file
+
+header-bytes : (l : List ℕ) → 4 ≤ length l → coresIn l ∷ partitionsIn l ∷ tasksIn l ∷ formIn l ∷ [] ≡ take 4 l
+header-bytes [] h = absurd (omega arith)
+header-bytes (a ∷ []) h = absurd (omega arith)
+header-bytes (a ∷ b ∷ []) h = absurd (omega arith)
+header-bytes (a ∷ b ∷ c ∷ []) h = absurd (omega arith)
+header-bytes (a ∷ b ∷ c ∷ d ∷ l) h = refl
 
 module _ {s : List ℕ} (b : Bytes s) (w : Whole s) where
   size : length s ≡ recordsAt (formIn s) (coresIn s) + recordSize (formIn s) * tasksIn s + 12
@@ -65,28 +98,13 @@ module _ {s : List ℕ} (b : Bytes s) (w : Whole s) where
   unfolding header decode
   header-read = header-bytes s (omega (arith, w .long))
 
-  figures-read : figureBytes (decode s) ≡ part s 4 30
-  unfolding figureBytes decode
-  figures-read = written-back (number-code 2) s figure-ladder 15 b (omega (arith, w .long))
-
-  sets-read : setBytes (decode s) ≡ part s (setsAt (formIn s)) (2 * coresIn s)
-  unfolding setBytes decode setIn
-  sets-read =
-      rw (take-filled 8 0 (setIn s) 0 (coresIn s))
-      (written-back (number-code 2) s (set-ladder (formIn s)) (coresIn s) b (omega (arith, size, records-after-sets (formIn s) (coresIn s))))
-
-  tasks-read : taskBytes (decode s) ≡ part s (recordsAt (formIn s) (coresIn s)) (recordSize (formIn s) * tasksIn s)
-  unfolding taskBytes decode taskIn recordIn
-  tasks-read =
-      rw (take-filled 32 noTask (taskIn s) 1 (tasksIn s))
-      (written-back (task-code (formIn s)) s (record-ladder (formIn s) (coresIn s)) (tasksIn s) b (omega (arith, size)))
-
-  body-read : body (decode s) ≡ before s
-  body-read =
-      let e : length s - 12 ≡ recordsAt (formIn s) (coresIn s) + recordSize (formIn s) * tasksIn s = omega (arith, size) in
-      rw (body-parts (decode s), header-read, figures-read, sets-read, tasks-read, e)
-      (parts-joined (formIn s) (coresIn s) (recordSize (formIn s) * tasksIn s) s)
+  whole-body : body (decode s) ≡ before s
+  unfolding decode
+  whole-body =
+      let end = recordsAt (formIn s) (coresIn s) + recordSize (formIn s) * tasksIn s in
+      let e : length s - 12 ≡ 4 + (end - 4) = omega (arith, size, w .long) in
+      body-read b (formIn s) (tasksIn s) refl (omega (arith, size)) ∙ rw (header-read, e, take-add 4 (end - 4) s)
 
   pub written-again : encode (decode s) ≡ s
   unfolding encode
-  written-again = rw body-read (sym (before-and-trailer b w))
+  written-again = rw whole-body (sym (before-and-trailer b w))

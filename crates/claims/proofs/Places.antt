@@ -4,11 +4,11 @@ use mathlib.Core.List.{List, [], _∷_, _++_, map, append-assoc}
 use Prim.Native.Nat.{ℕ, suc, _+_, _*_, _-_}
 use native.Mathlib.Omega.{arith}
 use lib.ListN.{take}
-use lib.Seq.{take-add}
 use Rattle.rules.specs.declared.Table.{Table}
 use Rattle.laws.specs.Idioms.{joined, bytesOf, part}
 use Rattle.rules.specs.Tasks.{tasksOf}
 use Rattle.rules.specs.File.{setsAt, recordsAt, recordSize, recordAt, fileLength, recordBytes, trailer, body, encode}
+use Rattle.laws.proofs.ByteLists.{part-join}
 use Rattle.laws.proofs.Rows.{Ladder}
 
 unfoldable pub header : Table → List ℕ
@@ -61,8 +61,10 @@ pub trailer-after-records : (form cores tasks : ℕ) → fileLength form cores t
 unfolding fileLength
 trailer-after-records form cores tasks = refl
 
--- the parts of a file, one after the other
-pub parts-joined : (form cores n : ℕ) (s : List ℕ)
-    → take 4 s ++ part s 4 30 ++ part s (setsAt form) (2 * cores) ++ part s (recordsAt form cores) n ≡ take (recordsAt form cores + n) s
+-- the parts of a file behind its header, one after the other
+pub parts-joined : (form cores n : ℕ) (s l : List ℕ)
+    → l ++ part s 4 30 ++ part s (setsAt form) (2 * cores) ++ part s (recordsAt form cores) n ≡ l ++ part s 4 (recordsAt form cores + n - 4)
 unfolding recordsAt setsAt
-parts-joined form cores n s = rw (take-add (34 + 2 * cores) n s, take-add 34 (2 * cores) s, take-add 4 30 s)
+parts-joined form cores n s l =
+    let e : 34 + 2 * cores + n - 4 ≡ 30 + (2 * cores + n) = omega arith in
+    rw (e, ← part-join s 4 30 (2 * cores + n), ← part-join s 34 (2 * cores) n) (simp append-assoc)

@@ -2,7 +2,7 @@
 // what it gives and then the sentence. Nobody has to call these; they are here to be proved. Those on files are in `mission_files`.
 ghost use mathlib.Core.Path.{_≡_};
 ghost use Rattle.rules.specs.Operations.{judgeAll, freshStarts, rejudging};
-ghost use Rattle.claims.specs.Files.{AcceptedTable};
+ghost use Rattle.claims.specs.Point2.{MayBeJudged};
 ghost use Rattle.claims.specs.Point3.{NewerWorse};
 ghost use Rattle.mission.specs.Judged.{JudgedRight, CarriedRight};
 use rules::AllJudged;
@@ -13,7 +13,7 @@ use rules::Table;
 // Point 2, all tasks judged fresh: RULES 5.5 of each.
 pub fn judged_fresh(t: Table) -> AllJudged
     ensures { λ r. ⌜ r ≡ judgeAll t freshStarts ⌝ }
-    ensures { λ r. ⌜ (AcceptedTable t → JudgedRight t r) ⌝ }
+    ensures { λ r. ⌜ (MayBeJudged t → JudgedRight t r) ⌝ }
 {
     judge::judge_all(t, [Picos(0); 32])
 }

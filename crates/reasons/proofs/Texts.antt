@@ -2,39 +2,45 @@
 use mathlib.Core.Path.{_≡_, refl}
 use mathlib.Core.Bool.{Bool, true, false, cond}
 use mathlib.Core.List.{List, [], _∷_}
-use Prim.Native.Nat.{ℕ, zero, suc, _<_}
-use native.Mathlib.Omega.{arith}
+use Prim.Native.Nat.{ℕ, zero, suc}
 use lib.Dec.{eqb}
-use lib.ListN.{length, getD, List·getD-eq-default}
+use lib.ListN.{length}
 use borrow.Author.Tests.{ne-eqb}
-use Rattle.laws.specs.Idioms.{text, every, within, Within}
-use Rattle.laws.proofs.Tests.{and-both, inside}
-use Rattle.text.specs.Put.{Given}
+use Rattle.laws.specs.Idioms.{text, every, isEmpty, within, Within}
+use Rattle.laws.proofs.Tests.{and-both, clash, inside}
+use Rattle.pieces.specs.Pieces.{piecesFrom, textAt, pieceOf}
 use Rattle.reasons.specs.Reasons.{numberedTexts, reasonText, longestReason}
 
--- the text of a number that is known, and of one that no refusal has
-module _ (number : ℕ) {made : ℕ} {out after : List ℕ} where
-  pub given-at : (k : ℕ) → number ≡ k → Given (reasonText k) out made after → Given (reasonText number) out made after
-  given-at k e given = rw e given
+pub own-text : (number : ℕ) → number ≡ 255 → text "an output is shorter than the tasks" ≡ reasonText number
+unfolding reasonText
+own-text number e = rw e
 
-  pub given-other : 16 < number → (number ≡ 255 → ⊥) → Given (text "no refusal has this number") out made after → Given (reasonText number) out made after
-  unfolding reasonText numberedTexts
-  given-other high other given = rw (ne-eqb number 255 other, List·getD-eq-default numberedTexts _ {n = number} (omega arith)) given
+pub piece-text : (number : ℕ) → (number ≡ 255 → ⊥) → pieceOf 124 numberedTexts number ≡ reasonText number
+unfolding reasonText
+piece-text number other = rw (ne-eqb number 255 other)
 
--- every text of a list, and the one for a place beyond it
-every-entry : {A : Type 0} (p : A → Bool) (l : List A) (i : ℕ) (d : A) → every p l ≡ true → p d ≡ true → p (getD l i d) ≡ true
-every-entry p [] i d all rest = rest
-every-entry p (x ∷ l) zero d all rest = and-both (p x) (every p l) all .0
-every-entry p (x ∷ l) (suc i) d all rest = every-entry p l i d (and-both (p x) (every p l) all .1) rest
+-- every text of a list that has one
+every-text : (p : List ℕ → Bool) (l : List (List ℕ)) (k : ℕ) → isEmpty l ≡ false → every p l ≡ true → p (textAt l k) ≡ true
+every-text p [] k some all = absurd (clash some)
+every-text p (x ∷ []) k some all = and-both (p x) true all .0
+every-text p (x ∷ y ∷ l) zero some all = and-both (p x) (every p (y ∷ l)) all .0
+every-text p (x ∷ y ∷ l) (suc k) some all = every-text p (y ∷ l) k refl (and-both (p x) (every p (y ∷ l)) all .1)
 
 fits : List ℕ → Bool
 fits words = within 1 longestReason (length words)
 
-all-fit : (number : ℕ) (b : Bool)
-    → fits (cond b (text "an output is shorter than the tasks") (getD numberedTexts number (text "no refusal has this number"))) ≡ true
+numbered-fit : every fits (piecesFrom 124 [] numberedTexts) ≡ true
 unfolding fits numberedTexts
+numbered-fit = refl
+
+numbered-some : isEmpty (piecesFrom 124 [] numberedTexts) ≡ false
+unfolding numberedTexts
+numbered-some = refl
+
+all-fit : (number : ℕ) (b : Bool) → fits (cond b (text "an output is shorter than the tasks") (pieceOf 124 numberedTexts number)) ≡ true
+unfolding fits pieceOf
 all-fit number true = refl
-all-fit number false = every-entry fits numberedTexts number _ refl refl
+all-fit number false = every-text fits (piecesFrom 124 [] numberedTexts) number numbered-some numbered-fit
 
 pub reason-length : (number : ℕ) → Within 1 longestReason (length (reasonText number))
 unfolding fits reasonText

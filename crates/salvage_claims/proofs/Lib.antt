@@ -1,1 +1,11 @@
--- (to be written)
+pub mod NotJudged
+pub mod Parts
+pub mod MarkedPlaces
+pub mod Passed
+pub mod NewFile
+pub mod Counts
+pub mod Salvaging
+pub mod Faultless
+pub mod Fitting
+pub mod CutParts
+pub mod Cut

@@ -1,15 +1,21 @@
--- `reason` meets its contract: each group gives the number's text. Assumes nothing.
+-- `reason` meets its contract: the piece in a number's place is its text. Assumes nothing.
 use borrow.Author.Needs.{needs}
-use Rattle.reasons.proofs.Texts.{reason-length}
+use mathlib.Core.Path.{_∙_}
+use Rattle.reasons.specs.Reasons.{numberedTexts}
+use Rattle.reasons.proofs.Texts.{own-text, piece-text, reason-length}
 use Rattle.reasons.proofs.reason.Statement.{statement}
 use Rattle.reasons.proofs.reason.Tie as tie
+
+returns : tie.Need-returns
+returns c = (rw (own-text _ (c .before .before .before .before .before .if1 .taken)) at (c .before .before .give .ensures), reason-length _)
+
+returns-2 : tie.Need-returns-2
+unfolding numberedTexts
+returns-2 c =
+    let found = c .before .before .before .before in
+    (rw (found .piece .ensures ∙ piece-text _ (found .before .before .before .if1 .left)) at (c .before .before .give2 .ensures), reason-length _)
 
 pub reason-spec : {M : Type 1} → statement M
 reason-spec =
     tie.close
-    (tie.spec (λ c κs. search needs) (λ c κs. search needs) (λ c κs. search needs) (λ c κs. search needs) (λ c κs. search needs)
-    (λ c. search needs) (λ c. (c .before .before .whole-reason .ensures, reason-length _))
-    (λ c. search needs) (λ c. (c .before .before .board-reason .ensures, reason-length _))
-    (λ c. search needs) (λ c. (c .before .before .task-reason .ensures, reason-length _))
-    (λ c. search needs) (λ c. (c .before .before .asked-reason .ensures, reason-length _))
-    (λ c. search needs) (λ c. (c .before .before .other-reason .ensures, reason-length _)))
+    (tie.spec (λ c. search needs) (λ c κs. search needs) (λ c. search needs) returns (λ c κs. search needs) (λ c κs. search needs) (λ c. search needs) returns-2)

@@ -1,0 +1,91 @@
+-- Of an accepted file that was cut behind its first record every record that fits is kept, and salvaging is not refused. Assumes nothing.
+use mathlib.Core.Path.{_≡_}
+use mathlib.Core.Bool.{true, false}
+use mathlib.Core.List.{List}
+use Prim.Native.Nat.{ℕ, _+_, _-_, _≤_, _<_}
+use native.Mathlib.Omega.{arith}
+use lib.ListN.{length, take}
+use borrow.Author.Tests.{le-ltb}
+use Rattle.rules.specs.Chain.{isAccepted}
+use Rattle.rules.specs.Refusals.{checkBoard, checkTasks, checkTable}
+use Rattle.rules.specs.File.{recordsAt, recordSize, recordAt, coresIn, tasksIn, formIn, decode}
+use Rattle.rules.specs.Operations.{checkFile}
+use Rattle.rules.specs.Salvage.{endsEarly, isSound, kept, salvaging}
+use Rattle.facts.proofs.Chain.{both-accepted}
+use Rattle.facts.proofs.Accepted.{sound}
+use Rattle.facts.proofs.Reading.{refusal-read, decoded-accepted}
+use Rattle.kept.proofs.Leading.{leading-is}
+use Rattle.kept.proofs.Sound.{cut-off, by-fault}
+use Rattle.claims.proofs.Files.{point-one}
+use Rattle.salvage_claims.specs.NewFile.{Salvages}
+use Rattle.salvage_claims.specs.Cut.{CutFile, fitting, TakenBack, Cut}
+use Rattle.salvage_claims.proofs.Passed.{passes}
+use Rattle.salvage_claims.proofs.NewFile.{table-small}
+use Rattle.salvage_claims.proofs.Faultless.{record-faultless}
+use Rattle.salvage_claims.proofs.Fitting.{first-fits, some-fit, fits, next-cut}
+use Rattle.salvage_claims.proofs.CutParts.{cut-length, cores-cut, tasks-cut, form-cut, record-cut, board-cut}
+
+module _ (s : List ℕ) (n : ℕ) (c : CutFile s n) where
+  table-accepted : isAccepted (checkTable (decode s)) ≡ true
+  table-accepted = decoded-accepted s (rw (refusal-read s) at (c .accepted))
+
+  -- ---- the records that fit are those that are kept
+
+  -- where a record ends, by the bytes that are left
+  end-cut : (k : ℕ) → recordAt (formIn (take n s)) (coresIn (take n s)) k + recordSize (formIn (take n s)) ≡ recordAt (formIn s) (coresIn s) k + recordSize (formIn s)
+  end-cut k = rw (form-cut s n c, cores-cut s n c)
+
+  sound-before : (i : ℕ) → i < fitting s n → isSound (take n s) (1 + i) ≡ true
+  sound-before i less =
+      let e : 1 + i ≡ i + 1 = omega arith in
+      let whole = by-fault (take n s) (i + 1) (omega (arith, end-cut (i + 1), fits s n c i less, cut-length s n c)) in
+      let faultless = record-faultless s table-accepted (i + 1) (omega arith) (omega arith) in
+      rw (e, ← whole, cores-cut s n c, record-cut s n c (i + 1) (fits s n c i less), faultless)
+
+  unsound-next : fitting s n < tasksIn s → isSound (take n s) (1 + fitting s n) ≡ false
+  unsound-next less =
+      let e : 1 + fitting s n ≡ fitting s n + 1 = omega arith in
+      rw (e, ← cut-off (take n s) (fitting s n + 1) (omega (arith, end-cut (fitting s n + 1), next-cut s n c less, cut-length s n c)))
+
+  kept-cut : kept (take n s) ≡ fitting s n
+  unfolding kept
+  kept-cut = rw (tasks-cut s n c) (leading-is (isSound (take n s)) (tasksIn s) (fitting s n) (omega arith) sound-before unsound-next)
+
+  some-kept : 1 ≤ kept (take n s)
+  unfolding decode
+  some-kept = rw kept-cut (some-fit s n c (sound (decode s) table-accepted .tasks-in .low))
+
+  -- ---- and nothing is refused
+
+  refused-cut : isAccepted (checkFile (take n s)) ≡ false
+  refused-cut = rw (refusal-read (take n s)) at (point-one .read .cut-short s (c .accepted) n (c .cut))
+
+  late-cut : endsEarly (take n s) ≡ false
+  unfolding endsEarly
+  late-cut = rw (form-cut s n c, cores-cut s n c, cut-length s n c) (le-ltb n (recordsAt (formIn s) (coresIn s)) (omega (arith, first-fits s n c)))
+
+  board-passed : isAccepted (checkBoard (decode (take n s))) ≡ true
+  unfolding checkTable
+  board-passed = rw (board-cut s n c) (both-accepted (checkBoard (decode s)) (checkTasks (decode s)) table-accepted .0)
+
+  module _ (out : List ℕ) (long : 990 ≤ length out) where
+    done : Salvages (take n s) out
+    done = passes (take n s) out (record {
+      refused-file = refused-cut;
+      late = late-cut;
+      board = board-passed;
+      some = some-kept;
+      room = omega (arith, table-small (take n s) board-passed some-kept);
+    })
+
+    taken-back : TakenBack s out n
+    unfolding salvaging
+    taken-back = record {
+      done = done;
+      promised = rw done (tasks-cut s n c);
+      kept = rw done kept-cut;
+      records = λ k low high. let e : k - 1 + 1 ≡ k = omega arith in record-cut s n c k (rw e at (fits s n c (k - 1) (omega arith)));
+    }
+
+pub cut : Cut
+cut = record { taken-back = λ s out n c long. taken-back s n c out long }
