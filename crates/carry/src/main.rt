@@ -120,16 +120,16 @@ fn judge_again(older: Table, newer: Table) -> bool {
 }
 
 fn judge_files(older: &[u8], newer: &[u8]) -> bool {
-    let was = file::read(older);
-    let is = file::read(newer);
+    let was = admit_file::read(older);
+    let is = admit_file::read(newer);
     let a = was.table;
     let b = is.table;
     judge_again(a, b)
 }
 
 fn carry(older: &[u8], newer: &[u8]) -> u8 {
-    let was = file::check(older);
-    let is = file::check(newer);
+    let was = admit_file::check(older);
+    let is = admit_file::check(newer);
     if was.number != 0 {
         return refuse(was.number, was, is);
     }

@@ -7,7 +7,6 @@ use native.Mathlib.Omega.{arith}
 use lib.ListN.{length, take}
 use lib.Seq.{take-add}
 use Rattle.rules.specs.declared.Task.{Task}
-use Rattle.rules.specs.declared.Table.{Table}
 use Rattle.rules.specs.Tasks.{noTask}
 use Rattle.rules.specs.File.{setsAt, recordsAt, recordSize, recordBytes, recordTask, body, encode, coresIn, partitionsIn, tasksIn, formIn, recordIn, firstTasks, decode}
 use Rattle.facts.proofs.Accepted.{sound}
@@ -32,54 +31,51 @@ module _ (s : List ℕ) where
 -- ---- the table of the first n records
 
 module _ (s : List ℕ) (fourth n : ℕ) where
-  abbrev firsts : Table
-  firsts = firstTasks s fourth n
-
-  pub already-cleared : cleared firsts ≡ firsts
+  pub already-cleared : cleared (firstTasks s fourth n) ≡ firstTasks s fourth n
   unfolding cleared setIn taskIn
   already-cleared = λ j. record {
     cores = coresIn s;
     partitions = partitionsIn s;
     tasks = n;
     fourth = fourth;
-    timing = firsts .timing;
+    timing = firstTasks s fourth n .timing;
     sets = filled 8 0 (take-filled 8 0 (setIn s) 0 (coresIn s) j);
     task = filled 32 noTask (take-filled 32 noTask (taskIn s) 1 n j);
   }
 
-  pub shape-of-read : AcceptedTable firsts → Shape firsts
+  pub shape-of-read : AcceptedTable (firstTasks s fourth n) → Shape (firstTasks s fourth n)
   unfolding setIn taskIn from
   shape-of-read passed = record {
     figures = refl;
-    sets = filled-length 8 0 (map (setIn s) (from 0 (coresIn s))) (rw (length-map-from (setIn s) (coresIn s) 0) (sound firsts passed .cores-in .high));
-    tasks = filled-length 32 noTask (map (taskIn s) (from 1 n)) (rw (length-map-from (taskIn s) n 1) (sound firsts passed .tasks-in .high));
+    sets = filled-length 8 0 (map (setIn s) (from 0 (coresIn s))) (rw (length-map-from (setIn s) (coresIn s) 0) (sound (firstTasks s fourth n) passed .cores-in .high));
+    tasks = filled-length 32 noTask (map (taskIn s) (from 1 n)) (rw (length-map-from (taskIn s) n 1) (sound (firstTasks s fourth n) passed .tasks-in .high));
   }
 
 -- its bytes, where its fourth byte gives records as the file's does, and the file reaches past them
 module _ {s : List ℕ} (b : Bytes s) (fourth n : ℕ) (same : recordBytes fourth ≡ recordBytes (formIn s))
     (reach : recordsAt (formIn s) (coresIn s) + recordSize (formIn s) * n ≤ length s) where
-  figures-read : figureBytes (firsts s fourth n) ≡ part s 4 30
+  figures-read : figureBytes (firstTasks s fourth n) ≡ part s 4 30
   unfolding figureBytes
   figures-read =
       written-back (number-code 2) s figure-ladder 15 b
       (omega (arith, records-after-sets (formIn s) (coresIn s), sets-after-figures (formIn s)))
 
-  sets-read : setBytes (firsts s fourth n) ≡ part s (setsAt (formIn s)) (2 * coresIn s)
+  sets-read : setBytes (firstTasks s fourth n) ≡ part s (setsAt (formIn s)) (2 * coresIn s)
   unfolding setBytes setIn
   sets-read =
       rw (take-filled 8 0 (setIn s) 0 (coresIn s))
       (written-back (number-code 2) s (set-ladder (formIn s)) (coresIn s) b (omega (arith, records-after-sets (formIn s) (coresIn s))))
 
-  tasks-read : taskBytes (firsts s fourth n) ≡ part s (recordsAt (formIn s) (coresIn s)) (recordSize (formIn s) * n)
+  tasks-read : taskBytes (firstTasks s fourth n) ≡ part s (recordsAt (formIn s) (coresIn s)) (recordSize (formIn s) * n)
   unfolding taskBytes taskIn recordIn
   tasks-read =
       rw (same, take-filled 32 noTask (taskIn s) 1 n)
       (written-back (task-code (formIn s)) s (record-ladder (formIn s) (coresIn s)) n b reach)
 
-  pub body-read : body (firsts s fourth n) ≡ header (firsts s fourth n) ++ part s 4 (recordsAt (formIn s) (coresIn s) + recordSize (formIn s) * n - 4)
+  pub body-read : body (firstTasks s fourth n) ≡ header (firstTasks s fourth n) ++ part s 4 (recordsAt (formIn s) (coresIn s) + recordSize (formIn s) * n - 4)
   body-read =
-      rw (body-parts (firsts s fourth n), figures-read, sets-read, tasks-read)
-      (parts-joined (formIn s) (coresIn s) (recordSize (formIn s) * n) s (header (firsts s fourth n)))
+      rw (body-parts (firstTasks s fourth n), figures-read, sets-read, tasks-read)
+      (parts-joined (formIn s) (coresIn s) (recordSize (formIn s) * n) s (header (firstTasks s fourth n)))
 
 -- ---- and of a whole file
 

@@ -4,7 +4,7 @@
 --     Places     the parts of a file and where each row of them stands
 --     Whole      what refusals 1 to 4 leave of a file
 --     Damage     a file that was cut or altered did not come whole
---     FromFile   the table that is read from a whole file is written as that file
+--     FromFile   the table of a file's first records has its bytes; that of a whole file is written as that file
 --     Widths     every figure of an accepted table fits its field
 --     FromTable  the file of an accepted table is whole and gives that table
 --     Cleared    a table and the same table cleared meet the same refusals

@@ -13,6 +13,7 @@ use lines::refused;
 use lines::word;
 use rules::Judged;
 use rules::Refusal;
+use rules::Salvaged;
 use rules::Written;
 ghost use Prim.Native.Nat.{_≤_};
 ghost use lib.ListN.{length};
@@ -89,10 +90,19 @@ fn at_most(n: usize, most: usize) -> usize
     if n < most { n } else { most }
 }
 
-// A table to the first bytes of a room, as many as the payload says, or to all of it where that is shorter.
+// How many bytes of a room are lent: as many as the payload says, or all of them where that is more.
+fn lent(payload: &[u8], most: usize) -> usize
+    ensures { λ r. ⌜ r ≤ most ⌝ }
+{
+    at_most(
+        raw::byte(payload, 0) as usize + 256 * raw::byte(payload, 1) as usize,
+        most,
+    )
+}
+
+// A table to the front of a room.
 fn write_raw(payload: &[u8], room: &mut [u8]) -> Written {
-    let asked = raw::byte(payload, 0) as usize + 256 * raw::byte(payload, 1) as usize;
-    let n = at_most(asked, room.len());
+    let n = lent(payload, room.len());
     writer::write(raw::table(payload, 2), &mut room[..n])
 }
 
@@ -109,6 +119,32 @@ fn write(payload: &[u8]) -> bool {
     let mut room = [165u8; 2048];
     let written = write_raw(payload, &mut room);
     labelled(put_written(written), b" ", weight(&room))
+}
+
+// `salvaged LEN` or `refused N P`, and the three counts
+fn put_salvaged(salvaged: Salvaged) -> bool {
+    let refusal = salvaged.refusal;
+    let said = if refusal.number != 0 {
+        refused(refusal)
+    } else {
+        labelled(true, b"salvaged ", salvaged.length as u64)
+    };
+    let promised = labelled(said, b" ", salvaged.promised as u64);
+    let kept = labelled(promised, b" ", salvaged.kept as u64);
+    labelled(kept, b" ", salvaged.stopped as u64)
+}
+
+// A file salvaged to the front of a room.
+fn salvage_raw(payload: &[u8], room: &mut [u8]) -> Salvaged {
+    let n = lent(payload, room.len());
+    salvaging::salvage(raw::from(payload, 2), &mut room[..n])
+}
+
+// S: a file is salvaged to the first bytes of 2,048.
+fn salvage(payload: &[u8]) -> bool {
+    let mut room = [165u8; 2048];
+    let salvaged = salvage_raw(payload, &mut room);
+    labelled(put_salvaged(salvaged), b" ", weight(&room))
 }
 
 // `holds BOUND request ROUNDS`, `holds BOUND job ROUNDS` or `misses ROUNDS`
@@ -165,6 +201,7 @@ fn one_line(letter: u8, payload: &[u8]) -> bool {
         b'H' => came(payload),
         b'V' => view(payload),
         b'W' => write(payload),
+        b'S' => salvage(payload),
         b'J' => judge_one(payload),
         b'A' => judge_all(payload),
         b'K' => judge_again(payload),

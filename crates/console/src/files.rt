@@ -59,6 +59,33 @@ pub fn load(who: &[u8], i: usize, buf: &mut [u8]) -> Got {
     load_named(who, &name[..n], buf)
 }
 
+// Written to a file that was opened, which is closed then.
+fn fill_new(who: &[u8], fd: i32, name: &[u8], content: &[u8]) -> bool {
+    let written = io::write_all(fd, content);
+    if !written {
+        failed(who, name);
+    }
+    libc::close(fd);
+    written
+}
+
+// A new file, and whether it was made. The name must not be taken; a file that could not be written is removed again.
+pub fn make(who: &[u8], i: usize, content: &[u8]) -> bool {
+    let mut buf = io::large_buffer();
+    let n = os::arg(i, &mut buf);
+    let name = &buf[..n];
+    let fd = os::create(name);
+    if fd < 0 {
+        failed(who, name);
+        return false;
+    }
+    let made = fill_new(who, fd, name, content);
+    if !made {
+        os::unlink(name);
+    }
+    made
+}
+
 // `list: standard output: No space left on device`, in the words for the call that failed last.
 pub fn unwritten(who: &[u8]) {
     failed(who, b"standard output");

@@ -6,6 +6,7 @@ mod notes;
 
 pub use files::Got;
 pub use files::load;
+pub use files::make;
 pub use files::say;
 pub use files::unwritten;
 pub use notes::explain;

@@ -13,20 +13,8 @@ pub fn note_number(words: &[u8], n: u64) {
 
 // The k-th part of a text, counted from 1, where `mark` stands between two parts; the last where there are fewer.
 pub fn part(s: &[u8], mark: u8, k: u8) -> &[u8] {
-    let mut left = k;
-    let mut start: usize = 0;
-    let mut i: usize = 0;
-    while i < s.len() {
-        if s[i] == mark {
-            if left <= 1 {
-                return &s[start..i];
-            }
-            left -= 1;
-            start = i + 1;
-        }
-        i += 1;
-    }
-    &s[start..]
+    let i = if k == 0 { 0 } else { k - 1 };
+    pieces::piece(s, mark, i)
 }
 
 // The name of the k-th timing figure or relation, by kind from 1. Nothing else has a name.

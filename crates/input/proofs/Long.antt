@@ -11,7 +11,7 @@ use lib.Seq.{getD-take, length-take-le, take-all}
 use borrow.Author.Tests.{le-ltb, ltb-true, ltb-false, ne-eqb}
 use Rattle.rules.specs.Chain.{refused}
 use Rattle.rules.specs.File.{setsAt, recordsAt, recordSize, fileLength, coresIn, tasksIn, formIn, checkWhole}
-use Rattle.rules.specs.Operations.{emptyTable, reading}
+use Rattle.rules.specs.Operations.{emptyTable, reading, checkFile, checkToJudge, readToJudge}
 use Rattle.rules.specs.Listing.{listing}
 use Rattle.input.specs.StandsFor.{StandsFor}
 
@@ -33,18 +33,22 @@ module _ (s : List ℕ) (cores : coresIn s < 256) (tasks : tasksIn s < 256) (lon
   unfolding reading
   refused-so = rw wrong-length
 
+  not-to-judge : readToJudge s ≡ record { refusal = refused 2 0; table = emptyTable }
+  unfolding readToJudge checkToJudge checkFile
+  not-to-judge = rw wrong-length
+
 -- two such inputs stand for each other
 module _ (s r : List ℕ) (cores : coresIn s < 256) (tasks : tasksIn s < 256) (long : 7952 ≤ length s)
     (cores′ : coresIn r < 256) (tasks′ : tasksIn r < 256) (long′ : 7952 ≤ length r) where
-  alike : reading s ≡ reading r
-  alike = refused-so s cores tasks long ∙ sym (refused-so r cores′ tasks′ long′)
+  judged-alike : readToJudge s ≡ readToJudge r
+  judged-alike = not-to-judge s cores tasks long ∙ sym (not-to-judge r cores′ tasks′ long′)
 
   both-long : StandsFor s r
   unfolding listing
   both-long = record {
     whole = wrong-length s cores tasks long ∙ sym (wrong-length r cores′ tasks′ long′);
-    read = alike;
-    listed = rw alike;
+    read = refused-so s cores tasks long ∙ sym (refused-so r cores′ tasks′ long′);
+    listed = rw judged-alike;
   }
 
 -- an input with its first `room` bytes: a shorter one is all there

@@ -12,7 +12,7 @@ fn show(word: usize, file: &[u8]) -> u8 {
     if !write(file) {
         return 3;
     }
-    let refusal = file::check(file);
+    let refusal = admit_file::check(file);
     console::explain(b"list: ", word, refusal.number, refusal.place);
     status::of_file(file)
 }

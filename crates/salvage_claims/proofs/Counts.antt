@@ -1,15 +1,14 @@
 -- The counts of a salvage that is not refused: how many records are kept, and that the next one is missing or at fault. Assumes nothing.
 use mathlib.Core.Path.{_≡_, refl, sym, _∙_}
 use mathlib.Core.Bool.{Bool, true, false, cond, not, _&&_}
-use mathlib.Core.Logic.{_⊎_, inl, inr, _↔_, _≢_}
+use mathlib.Core.Logic.{inl, inr, _↔_, _≢_}
 use mathlib.Core.List.{List}
 use Prim.Native.Nat.{ℕ, _+_, _≤_, _<_}
 use native.Mathlib.Omega.{arith}
-use lib.Dec.{leb, eqb}
-use lib.ListN.{length}
-use borrow.Author.Tests.{leb-false, eqb-true, eqb-false, not-false}
+use lib.Dec.{eqb}
+use borrow.Author.Tests.{leb-false, eqb-true, eqb-false}
 use Rattle.laws.proofs.Tests.{clash}
-use Rattle.rules.specs.File.{recordSize, recordAt, recordTask, recordIn, coresIn, tasksIn, formIn}
+use Rattle.rules.specs.File.{recordTask, recordIn, coresIn, tasksIn}
 use Rattle.rules.specs.Salvage.{reaches, taskFault, isSound, kept, stopped, salvaging}
 use Rattle.kept.proofs.Kept.{kept-most, kept-stop, kept-whole, kept-faultless}
 use Rattle.salvage_claims.specs.NewFile.{Salvages, Lacks, Counts}

@@ -20,7 +20,7 @@ use Rattle.claims.proofs.Files.{point-one}
 use Rattle.salvage_claims.specs.NewFile.{Salvages}
 use Rattle.salvage_claims.specs.Cut.{CutFile, fitting, TakenBack, Cut}
 use Rattle.salvage_claims.proofs.Passed.{passes}
-use Rattle.salvage_claims.proofs.NewFile.{table-small}
+use Rattle.salvage_claims.proofs.SalvagedTable.{table-small}
 use Rattle.salvage_claims.proofs.Faultless.{record-faultless}
 use Rattle.salvage_claims.proofs.Fitting.{first-fits, some-fit, fits, next-cut}
 use Rattle.salvage_claims.proofs.CutParts.{cut-length, cores-cut, tasks-cut, form-cut, record-cut, board-cut}
@@ -32,7 +32,8 @@ module _ (s : List ℕ) (n : ℕ) (c : CutFile s n) where
   -- ---- the records that fit are those that are kept
 
   -- where a record ends, by the bytes that are left
-  end-cut : (k : ℕ) → recordAt (formIn (take n s)) (coresIn (take n s)) k + recordSize (formIn (take n s)) ≡ recordAt (formIn s) (coresIn s) k + recordSize (formIn s)
+  end-cut : (k : ℕ)
+      → recordAt (formIn (take n s)) (coresIn (take n s)) k + recordSize (formIn (take n s)) ≡ recordAt (formIn s) (coresIn s) k + recordSize (formIn s)
   end-cut k = rw (form-cut s n c, cores-cut s n c)
 
   sound-before : (i : ℕ) → i < fitting s n → isSound (take n s) (1 + i) ≡ true

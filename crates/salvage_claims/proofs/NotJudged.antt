@@ -1,19 +1,18 @@
 -- No salvaged table is judged: the checks before every judgement end with refusal 18. Assumes nothing.
-use mathlib.Core.Path.{_≡_, sym, ap, _∙_}
+use mathlib.Core.Path.{_≡_, sym, _∙_}
 use mathlib.Core.Bool.{true}
 use mathlib.Core.List.{List}
 use Prim.Native.Nat.{ℕ}
 use Rattle.laws.proofs.Tests.{clash, fails}
 use Rattle.rules.specs.declared.Table.{Table}
 use Rattle.rules.specs.Kinds.{saysSalvaged, isSalvaged}
-use Rattle.rules.specs.Chain.{accepted, refused, isAccepted}
+use Rattle.rules.specs.Chain.{refused, isAccepted}
 use Rattle.rules.specs.Refusals.{checkJudged, checkStart, checkOne, checkAll}
 use Rattle.rules.specs.File.{formIn, decode}
 use Rattle.rules.specs.Operations.{reading, checkFile, checkToJudge, readToJudge, judgeOne, judgeAll, checkBoth, faultyOf, isCarried, rejudging}
 use Rattle.rules.specs.Listing.{refusedLine, tableText, listing}
 use Rattle.facts.proofs.Reading.{refusal-read, read-table}
 use Rattle.claims.specs.Files.{AcceptedTable, AcceptedFile}
-use Rattle.claims.specs.Point2.{MayBeJudged}
 use Rattle.claims.proofs.NoRefusal.{table-plain}
 use Rattle.claims.proofs.Point2.{may, may-back}
 use Rattle.salvage_claims.specs.NotJudged.{NotJudged, NoneJudged}

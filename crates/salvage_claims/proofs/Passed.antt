@@ -7,7 +7,6 @@ use native.Mathlib.Omega.{arith}
 use lib.Dec.{ltb, eqb}
 use lib.ListN.{length}
 use borrow.Author.Tests.{ltb-false, le-ltb, eqb-false, ne-eqb}
-use Rattle.rules.specs.declared.Refusal.{Refusal}
 use Rattle.rules.specs.Chain.{isAccepted, _orElse_, given}
 use Rattle.rules.specs.Refusals.{checkBoard}
 use Rattle.rules.specs.File.{encode, decode}

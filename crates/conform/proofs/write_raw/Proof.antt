@@ -9,5 +9,5 @@ use Rattle.conform.proofs.write_raw.Tie as tie
 pub write-raw-spec : {M : Type 1} → statement M
 write-raw-spec =
     tie.close
-    (tie.spec (λ c κs. search needs) (λ c. search needs) (λ c κs. search needs) (λ c. search needs) (λ c. search needs) (λ c. search needs) (λ c κs. search needs) (λ c κs. search needs)
-    (λ c. search needs) (λ c. sym (length-take-le _ _ (omega arith))) (λ c κs. search needs) (λ c. search needs) (λ c. search needs))
+    (tie.spec (λ c κs. search needs) (λ c κs. search needs) (λ c. search needs) (λ c. sym (length-take-le _ _ (omega arith))) (λ c κs. search needs)
+    (λ c. search needs) (λ c. search needs))
