@@ -3,11 +3,13 @@ ghost use mathlib.Core.Path.{_≡_};
 ghost use mathlib.Core.Bool.{cond};
 ghost use Rattle.rules.specs.File.{checkWhole};
 ghost use Rattle.rules.specs.Operations.{checkFile, checkView};
+ghost use Rattle.rules.specs.Salvage.{salvaging, salvagedOut};
 ghost use Rattle.rules.specs.Listing.{listing};
 ghost use Rattle.text.specs.Put.{Given};
 ghost use Rattle.plain.specs.Codes.{codeOf};
 ghost use Rattle.judged.specs.JudgedFile.{checkJudgedFile, JudgedFile};
 ghost use Rattle.recarry.specs.Files.{carryCode, carryRefusal, CarriedFiles, filesWorsen};
+ghost use Rattle.report.specs.Code.{salvageCode};
 ghost use Rattle.reasons.specs.Reasons.{reasonText};
 ghost use Rattle.shown.specs.Shown.{taskCount, recordPlace};
 
@@ -98,6 +100,15 @@ pub extern "C" fn ryb_worsens(older: &[u8], newer: &[u8]) -> u8
         return 1;
     }
     0
+}
+
+// Takes back what is whole of a cut table file, as a new one. A refusal changes nothing.
+#[no_mangle]
+pub extern "C" fn ryb_salvage(file: &[u8], out: &mut [u8]) -> u64
+    ensures { λ r. ⌜ r ≡ salvageCode (salvaging (now (file .entry)) (now (out .entry))) ⌝ }
+    ensures { λ _. ⌜ now (out .exit) ≡ salvagedOut (now (file .entry)) (now (out .entry)) ⌝ }
+{
+    report::code(salvaging::salvage(file, out))
 }
 
 // The words for a refusal's number, whole, and their length; where they do not fit, nothing, and 0.

@@ -10,6 +10,7 @@ use Rattle.rules.specs.declared.Refusal.{Refusal}
 use Rattle.rules.specs.declared.Answer.{Answer}
 use Rattle.rules.specs.declared.Read.{Read}
 use Rattle.rules.specs.declared.Written.{Written}
+use Rattle.rules.specs.declared.Salvaged.{Salvaged}
 use Rattle.rules.specs.declared.Judged.{Judged}
 use Rattle.rules.specs.declared.AllJudged.{AllJudged}
 use Rattle.rules.specs.declared.Rejudged.{Rejudged}
@@ -18,8 +19,9 @@ use Rattle.rules.specs.Timing as Timing
 use Rattle.rules.specs.Timing.{Row}
 use Rattle.rules.specs.Refusals.{checkTiming, checkBus, boardRefusal, checkBoard, checkTasks, checkTable, checkJudged, checkStart}
 use Rattle.rules.specs.File.{checkWhole}
-use Rattle.rules.specs.Operations.{checkFile, reading, checkView, viewing, judgeOne, judgeAll}
-use Rattle.rules.specs.Listing.{refusedLine, tableText, listing, receipt}
+use Rattle.rules.specs.Operations.{checkFile, reading, checkToJudge, readToJudge, checkView, viewing, judgeOne, judgeAll}
+use Rattle.rules.specs.Salvage.{salvaging, salvagedOut}
+use Rattle.rules.specs.Listing.{refusedLine, tableText, listing, receipt, report}
 use Rattle.changes.specs.declared.Change.{Change}
 use Rattle.changes.specs.Difference as Difference
 use Rattle.judge.specs.Starts.{inPicos}
@@ -30,7 +32,10 @@ use Rattle.plain.specs.Codes.{codeOf}
 use Rattle.judged.specs.JudgedFile.{checkJudgedFile, JudgedFile}
 use Rattle.recarry.specs.declared.CarryRefusal.{CarryRefusal}
 use Rattle.recarry.specs.Files.{carryRefusal, carryCode, CarriedFiles, filesWorsen}
+use Rattle.salvaging.specs.Front.{Salvages}
+use Rattle.report.specs.Code.{salvageCode}
 use Rattle.reasons.specs.Reasons.{reasonText}
+use Rattle.pieces.specs.Pieces.{pieceOf}
 use Rattle.shown.specs.Shown.{taskCount, recordPlace}
 use Rattle.receipt.specs.Status.{receiptStatus}
 use Rattle.status.specs.Status.{fileStatus}
@@ -47,6 +52,11 @@ pub record Promises : Type 0 where
   pub view : (s : List ℕ) (k : ℕ) → Exact (λ (part : List ℕ). part ≡ viewing s k)
   pub view-refusal : (s : List ℕ) (k : ℕ) → Exact (λ (r : Refusal). r ≡ checkView s k)
   pub write : (t : Table) (out : List ℕ) → Exact (λ (r : Written × List ℕ). Wrote t out (r .0) (r .1))
+  -- admit_file
+  pub check-to-judge : (s : List ℕ) → Exact (λ (r : Refusal). r ≡ checkToJudge s)
+  pub read-to-judge : (s : List ℕ) → Exact (λ (r : Read). r ≡ readToJudge s)
+  -- salvaging
+  pub salvage : (s out : List ℕ) → Exact (λ (r : Salvaged × List ℕ). Salvages s out (r .0) (r .1))
   -- input
   pub front : (input : List ℕ) (n : ℕ) → Exact (λ (part : List ℕ). part ≡ take n input)
   -- timing and tasks
@@ -76,6 +86,8 @@ pub record Promises : Type 0 where
   pub refused : (number : ℕ) (out : List ℕ) → Exact (λ (r : ℕ × List ℕ). Given (refusedLine number) out (r .0) (r .1))
   pub receipt-line : (s out : List ℕ) → Exact (λ (r : ℕ × List ℕ). Given (receipt s) out (r .0) (r .1))
   pub receipt-status : (s : List ℕ) → Exact (λ (r : ℕ). r ≡ receiptStatus s)
+  -- report
+  pub report-line : (r : Salvaged) (out : List ℕ) → Exact (λ (x : ℕ × List ℕ). Given (report r) out (x .0) (x .1))
   -- status
   pub of-file : (s : List ℕ) → Exact (λ (r : ℕ). r ≡ fileStatus s)
   -- judged
@@ -86,7 +98,8 @@ pub record Promises : Type 0 where
       → Exact (λ (r : CarryRefusal × List ℕ × List ℕ × List ℕ). (r .0 ≡ carryRefusal older newer bounds rounds by) × CarriedFiles older newer bounds rounds by (r .1) (r .2) (r .3))
   pub carry-code : (refused : CarryRefusal) → Exact (λ (r : ℕ). r ≡ carryCode refused)
   pub worsens-files : (older newer : List ℕ) → Exact (λ (r : Bool). r ≡ filesWorsen older newer)
-  -- reasons
+  -- pieces and reasons
+  pub piece : (s : List ℕ) (mark k : ℕ) → Exact (λ (part : List ℕ). part ≡ pieceOf mark s k)
   pub reason : (number : ℕ) (out : List ℕ) → Exact (λ (r : ℕ × List ℕ). Given (reasonText number) out (r .0) (r .1))
   -- shown
   pub task-count : (s : List ℕ) → Exact (λ (r : ℕ). r ≡ taskCount s)
@@ -103,4 +116,5 @@ pub record Promises : Type 0 where
   pub ryb-carry : (older newer bounds rounds by : List ℕ)
       → Exact (λ (r : ℕ × List ℕ × List ℕ × List ℕ). (r .0 ≡ carryCode (carryRefusal older newer bounds rounds by)) × CarriedFiles older newer bounds rounds by (r .1) (r .2) (r .3))
   pub ryb-worsens : (older newer : List ℕ) → Exact (λ (r : ℕ). r ≡ cond (filesWorsen older newer) 1 0)
+  pub ryb-salvage : (s out : List ℕ) → Exact (λ (r : ℕ × List ℕ). (r .0 ≡ salvageCode (salvaging s out)) × (r .1 ≡ salvagedOut s out))
   pub ryb-reason : (number : ℕ) (out : List ℕ) → Exact (λ (r : ℕ × List ℕ). Given (reasonText number) out (r .0) (r .1))

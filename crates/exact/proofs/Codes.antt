@@ -8,6 +8,7 @@ use native.Mathlib.Omega.{arith}
 use lib.ListN.{length}
 use borrow.Author.Tests.{eqb-false, eq-eqb, ne-eqb}
 use Rattle.rules.specs.declared.Refusal.{Refusal}
+use Rattle.rules.specs.declared.Salvaged.{Salvaged}
 use Rattle.rules.specs.Chain.{_orElse_, isAccepted}
 use Rattle.rules.specs.Listing.{tableLines, refusedLine, listing}
 use Rattle.rules.specs.File.{formIn, coresIn, tasksIn, decode}
@@ -21,6 +22,7 @@ use Rattle.plain.specs.Codes.{codeOf}
 use Rattle.stored.specs.Stored.{checkOutputs}
 use Rattle.recarry.specs.declared.CarryRefusal.{CarryRefusal}
 use Rattle.recarry.specs.Files.{tableNumber, checkFiles, faultyFile, checkCarry, carryRefusal, carryCode, filesWorsen}
+use Rattle.report.specs.Code.{salvageCode}
 use Rattle.shown.specs.Shown.{taskCount, recordPlace}
 use Rattle.shown.proofs.Shown.{tasks-there, record-there}
 
@@ -54,6 +56,19 @@ parts-back r h g e = rw e (omega arith, omega arith)
 pub carried-parts-back : (r : CarryRefusal) → r .refusal .number < 256 → r .refusal .place < 256 → isAccepted (r .refusal) ≡ false
     → (carryCode r % 256 ≡ r .refusal .number) × (carryCode r / 256 % 256 ≡ r .refusal .place) × (carryCode r / 65536 ≡ tableNumber (r .faulty))
 carried-parts-back r h g e = rw e (omega arith, omega arith, omega arith)
+
+-- RYB_PROMISED, RYB_KEPT, RYB_STOPPED and RYB_LENGTH give back what ryb_salvage tells, and RYB_NUMBER is 0 exactly if nothing is refused
+module _ (r : Salvaged) where
+  pub salvage-counts-back : codeOf (r .refusal) < 65536 → r .promised < 256 → r .kept < 256 → r .stopped < 256
+      → (salvageCode r / 65536 % 256 ≡ r .promised) × (salvageCode r / 16777216 % 256 ≡ r .kept)
+      × (salvageCode r / 4294967296 % 256 ≡ r .stopped) × (salvageCode r / 1099511627776 ≡ r .length)
+  unfolding salvageCode
+  salvage-counts-back refusal promised kept stopped = (omega arith, omega arith, omega arith, omega arith)
+
+  pub salvage-refusal-back : r .refusal .number < 256 → r .refusal .place < 256 → isAccepted (r .refusal) ≡ false
+      → (salvageCode r % 256 ≡ r .refusal .number) × (salvageCode r / 256 % 256 ≡ r .refusal .place)
+  unfolding salvageCode
+  salvage-refusal-back h g e = rw e (omega arith, omega arith)
 
 -- ryb_worsens says whether ryb_carry begins at the older bounds
 pub worsens-carried : (older newer : List ℕ) → isAccepted (checkFiles older newer) ≡ true
