@@ -15,7 +15,7 @@ fn front_of(s: &[u8], n: usize) -> &[u8]
 }
 
 // The first n bytes of the array, or all where n is larger. They stand for every input of which they are the first bytes, as many as the array
-// has room for: it is refused as they are, read as they are and listed as they are.
+// has room for: it is refused as they are, read as they are, listed as they are and salvaged as they are.
 pub fn front(input: &[u8; 7952], n: usize) -> &[u8]
     ensures { λ r. ⌜ now r ≡ take n (now (input .entry)) ⌝ }
     ensures { λ r. ⌜ ((s : List ℕ) → take (length (now (input .entry))) s ≡ now r → StandsFor s (now r)) ⌝ }

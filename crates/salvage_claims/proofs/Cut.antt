@@ -23,34 +23,40 @@ use Rattle.salvage_claims.proofs.Passed.{passes}
 use Rattle.salvage_claims.proofs.SalvagedTable.{table-small}
 use Rattle.salvage_claims.proofs.Faultless.{record-faultless}
 use Rattle.salvage_claims.proofs.Fitting.{first-fits, some-fit, fits, next-cut}
-use Rattle.salvage_claims.proofs.CutParts.{cut-length, cores-cut, tasks-cut, form-cut, record-cut, board-cut}
+use Rattle.kept.proofs.CutParts.{cut-length, cores-cut, tasks-cut, form-cut, record-cut, board-cut}
 
 module _ (s : List ℕ) (n : ℕ) (c : CutFile s n) where
   table-accepted : isAccepted (checkTable (decode s)) ≡ true
   table-accepted = decoded-accepted s (rw (refusal-read s) at (c .accepted))
+
+  within : n ≤ length s
+  within = omega (arith, c .cut)
+
+  reaches : recordsAt (formIn s) (coresIn s) ≤ n
+  reaches = omega (arith, first-fits s n c)
 
   -- ---- the records that fit are those that are kept
 
   -- where a record ends, by the bytes that are left
   end-cut : (k : ℕ)
       → recordAt (formIn (take n s)) (coresIn (take n s)) k + recordSize (formIn (take n s)) ≡ recordAt (formIn s) (coresIn s) k + recordSize (formIn s)
-  end-cut k = rw (form-cut s n c, cores-cut s n c)
+  end-cut k = rw (form-cut s n within reaches, cores-cut s n within reaches)
 
   sound-before : (i : ℕ) → i < fitting s n → isSound (take n s) (1 + i) ≡ true
   sound-before i less =
       let e : 1 + i ≡ i + 1 = omega arith in
-      let whole = by-fault (take n s) (i + 1) (omega (arith, end-cut (i + 1), fits s n c i less, cut-length s n c)) in
+      let whole = by-fault (take n s) (i + 1) (omega (arith, end-cut (i + 1), fits s n c i less, cut-length s n within reaches)) in
       let faultless = record-faultless s table-accepted (i + 1) (omega arith) (omega arith) in
-      rw (e, ← whole, cores-cut s n c, record-cut s n c (i + 1) (fits s n c i less), faultless)
+      rw (e, ← whole, cores-cut s n within reaches, record-cut s n within reaches (i + 1) (fits s n c i less), faultless)
 
   unsound-next : fitting s n < tasksIn s → isSound (take n s) (1 + fitting s n) ≡ false
   unsound-next less =
       let e : 1 + fitting s n ≡ fitting s n + 1 = omega arith in
-      rw (e, ← cut-off (take n s) (fitting s n + 1) (omega (arith, end-cut (fitting s n + 1), next-cut s n c less, cut-length s n c)))
+      rw (e, ← cut-off (take n s) (fitting s n + 1) (omega (arith, end-cut (fitting s n + 1), next-cut s n c less, cut-length s n within reaches)))
 
   kept-cut : kept (take n s) ≡ fitting s n
   unfolding kept
-  kept-cut = rw (tasks-cut s n c) (leading-is (isSound (take n s)) (tasksIn s) (fitting s n) (omega arith) sound-before unsound-next)
+  kept-cut = rw (tasks-cut s n within reaches) (leading-is (isSound (take n s)) (tasksIn s) (fitting s n) (omega arith) sound-before unsound-next)
 
   some-kept : 1 ≤ kept (take n s)
   unfolding decode
@@ -63,11 +69,11 @@ module _ (s : List ℕ) (n : ℕ) (c : CutFile s n) where
 
   late-cut : endsEarly (take n s) ≡ false
   unfolding endsEarly
-  late-cut = rw (form-cut s n c, cores-cut s n c, cut-length s n c) (le-ltb n (recordsAt (formIn s) (coresIn s)) (omega (arith, first-fits s n c)))
+  late-cut = rw (form-cut s n within reaches, cores-cut s n within reaches, cut-length s n within reaches) (le-ltb n (recordsAt (formIn s) (coresIn s)) reaches)
 
   board-passed : isAccepted (checkBoard (decode (take n s))) ≡ true
   unfolding checkTable
-  board-passed = rw (board-cut s n c) (both-accepted (checkBoard (decode s)) (checkTasks (decode s)) table-accepted .0)
+  board-passed = rw (board-cut s n within reaches) (both-accepted (checkBoard (decode s)) (checkTasks (decode s)) table-accepted .0)
 
   module _ (out : List ℕ) (long : 990 ≤ length out) where
     done : Salvages (take n s) out
@@ -83,9 +89,9 @@ module _ (s : List ℕ) (n : ℕ) (c : CutFile s n) where
     unfolding salvaging
     taken-back = record {
       done = done;
-      promised = rw done (tasks-cut s n c);
+      promised = rw done (tasks-cut s n within reaches);
       kept = rw done kept-cut;
-      records = λ k low high. let e : k - 1 + 1 ≡ k = omega arith in record-cut s n c k (rw e at (fits s n c (k - 1) (omega arith)));
+      records = λ k low high. let e : k - 1 + 1 ≡ k = omega arith in record-cut s n within reaches k (rw e at (fits s n c (k - 1) (omega arith)));
     }
 
 pub cut : Cut

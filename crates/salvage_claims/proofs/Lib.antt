@@ -1,5 +1,4 @@
 -- The demands of specs/ hold. What the proofs stand on, in the order of its parts:
---     Parts          two lists that agree in a part agree in the parts of it
 --     MarkedPlaces   bit 1 of the fourth byte moves nothing in a file
 --     Passed         what is known where salvaging is not refused, and back
 --     SalvagedTable  its file is read back as it, and has the cut file's bytes
@@ -9,11 +8,9 @@
 -- and of a file that was cut
 --     Faultless      no record of an accepted file is at fault
 --     Fitting        which of its records fit
---     CutParts       what the cut leaves as it was
 --     Cut            every record that fits is kept
 -- and beside them
 --     NotJudged      no salvaged table is judged
-pub mod Parts
 pub mod MarkedPlaces
 pub mod Passed
 pub mod SalvagedTable
@@ -22,6 +19,5 @@ pub mod Counts
 pub mod Salvaging
 pub mod Faultless
 pub mod Fitting
-pub mod CutParts
 pub mod Cut
 pub mod NotJudged

@@ -22,7 +22,7 @@ use Rattle.claims.specs.Files.{Shape, cleared}
 use Rattle.claims.proofs.Places.{header}
 use Rattle.claims.proofs.FromFile.{already-cleared, shape-of-read, body-read}
 use Rattle.claims.proofs.Files.{return, return-in-place}
-use Rattle.salvage_claims.proofs.Parts.{parts-agree}
+use Rattle.kept.proofs.Parts.{parts-agree}
 use Rattle.salvage_claims.proofs.MarkedPlaces.{marked-size, marked-record, marked-place}
 
 module _ (s : List ℕ) (board : isAccepted (checkBoard (decode s)) ≡ true) (some : 1 ≤ kept s) where

@@ -1,4 +1,4 @@
--- What a cut leaves of a file as it was: its counts, what stands before the cut, and so its board. Assumes nothing.
+-- What a cut behind the sets leaves of a file as it was: its counts, what stands before the cut, and so its board. Assumes nothing.
 use mathlib.Core.Path.{_≡_, ap}
 use mathlib.Core.List.{List}
 use Prim.Native.Nat.{ℕ, _+_, _*_, _≤_, _<_}
@@ -7,23 +7,21 @@ use lib.ListN.{length, take, getD}
 use lib.Seq.{length-take-le, take-take, getD-take}
 use Rattle.laws.specs.Idioms.{filled, numberIn, part}
 use Rattle.rules.specs.Refusals.{checkBoard}
-use Rattle.rules.specs.File.{setsAt, recordSize, recordAt, recordIn, coresIn, partitionsIn, tasksIn, formIn, decode}
+use Rattle.rules.specs.File.{setsAt, recordsAt, recordSize, recordAt, recordIn, coresIn, partitionsIn, tasksIn, formIn, decode}
 use Rattle.places.proofs.Places.{records-are, records-limit}
-use Rattle.salvage_claims.specs.Cut.{CutFile}
-use Rattle.salvage_claims.proofs.Parts.{parts-agree, row-agree}
-use Rattle.salvage_claims.proofs.Fitting.{first-fits}
+use Rattle.kept.proofs.Parts.{parts-agree, row-agree}
 
-module _ (s : List ℕ) (n : ℕ) (c : CutFile s n) where
+module _ (s : List ℕ) (n : ℕ) (within : n ≤ length s) (reaches : recordsAt (formIn s) (coresIn s) ≤ n) where
   pub cut-length : length (take n s) ≡ n
-  cut-length = length-take-le n s (omega (arith, c .cut))
+  cut-length = length-take-le n s within
 
   header-cut : (i : ℕ) → i < 4 → getD (take n s) i 0 ≡ getD s i 0
-  header-cut i low = getD-take n s i 0 (omega (arith, first-fits s n c, records-limit (formIn s) (coresIn s)))
+  header-cut i low = getD-take n s i 0 (omega (arith, records-limit (formIn s) (coresIn s)))
 
   pub cores-cut : coresIn (take n s) ≡ coresIn s
   cores-cut = header-cut 0 (omega arith)
 
-  partitions-cut : partitionsIn (take n s) ≡ partitionsIn s
+  pub partitions-cut : partitionsIn (take n s) ≡ partitionsIn s
   partitions-cut = header-cut 1 (omega arith)
 
   pub tasks-cut : tasksIn (take n s) ≡ tasksIn s
@@ -39,19 +37,19 @@ module _ (s : List ℕ) (n : ℕ) (c : CutFile s n) where
   unfolding recordIn
   record-cut k h = rw (form-cut, cores-cut) (part-cut (recordAt (formIn s) (coresIn s) k) (recordSize (formIn s)) h)
 
-  figures-cut : decode (take n s) .timing ≡ decode s .timing
+  pub figures-cut : decode (take n s) .timing ≡ decode s .timing
   unfolding decode
   figures-cut =
       row-agree 0 15
-      (λ k less. ap numberIn (part-cut (4 + 2 * k) 2 (omega (arith, first-fits s n c, records-limit (formIn s) (coresIn s)))))
+      (λ k less. ap numberIn (part-cut (4 + 2 * k) 2 (omega (arith, records-limit (formIn s) (coresIn s)))))
 
-  sets-cut : decode (take n s) .sets ≡ decode s .sets
+  pub sets-cut : decode (take n s) .sets ≡ decode s .sets
   unfolding decode
   sets-cut =
       rw (form-cut, cores-cut)
       (ap (filled 8 0)
       (row-agree 0 (coresIn s)
-      (λ k less. ap numberIn (part-cut (setsAt (formIn s) + 2 * k) 2 (omega (arith, first-fits s n c, records-are (formIn s) (coresIn s)))))))
+      (λ k less. ap numberIn (part-cut (setsAt (formIn s) + 2 * k) 2 (omega (arith, records-are (formIn s) (coresIn s)))))))
 
   pub board-cut : checkBoard (decode (take n s)) ≡ checkBoard (decode s)
   unfolding checkBoard decode
