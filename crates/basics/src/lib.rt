@@ -1,8 +1,8 @@
 // Small steps that many crates take: a refusal made, the kind of a table asked for, the larger of two numbers.
 ghost use mathlib.Core.Path.{_≡_};
-ghost use Prim.Native.Nat.{max};
+ghost use Prim.Native.Nat.{max, _<_};
 ghost use Rattle.rules.specs.Chain.{refused};
-ghost use Rattle.rules.specs.Kinds.{saysBus, saysSalvaged};
+ghost use Rattle.rules.specs.Kinds.{saysBus, saysSalvaged, marked};
 use rules::Refusal;
 
 // RULES 9.1; 0, 0 where nothing is refused.
@@ -24,6 +24,17 @@ pub fn says_salvaged(fourth: u8) -> bool
     ensures { λ r. ⌜ r ≡ saysSalvaged fourth ⌝ }
 {
     fourth / 2 % 2 == 1
+}
+
+// RULES 7.8: bit 1 set, and the other bits as they are, of a fourth byte that passes check 5.
+pub fn mark_salvaged(fourth: u8) -> u8
+    requires { ⌜ fourth < 4 ⌝ }
+    ensures { λ r. ⌜ r ≡ marked fourth ⌝ }
+{
+    if says_salvaged(fourth) {
+        return fourth;
+    }
+    fourth + 2
 }
 
 pub fn most(a: u64, b: u64) -> u64

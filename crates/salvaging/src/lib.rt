@@ -1,9 +1,8 @@
 // What is whole of a table file that was cut, taken back and written as a new file that says so (RULES 7.7, 7.8).
 ghost use mathlib.Core.Path.{_≡_};
 ghost use mathlib.Core.Bool.{true, false, cond};
-ghost use Prim.Native.Nat.{_+_, _≤_, _<_};
+ghost use Prim.Native.Nat.{_+_, _≤_};
 ghost use lib.Dec.{eqb};
-ghost use Rattle.rules.specs.Kinds.{marked};
 ghost use Rattle.rules.specs.Chain.{isAccepted};
 ghost use Rattle.rules.specs.Refusals.{checkBoard};
 ghost use Rattle.rules.specs.File.{decode};
@@ -31,17 +30,6 @@ fn front_refusal(file: &[u8]) -> Refusal
     contents::board(file)
 }
 
-// Bit 1 set, and the other bits as they are.
-fn mark(fourth: u8) -> u8
-    requires { ⌜ fourth < 4 ⌝ }
-    ensures { λ r. ⌜ r ≡ marked fourth ⌝ }
-{
-    if basics::says_salvaged(fourth) {
-        return fourth;
-    }
-    fourth + 2
-}
-
 // The new file, of a file with a board and n kept records; 15 where it does not fit, and nothing changes.
 fn write_kept(file: &[u8], n: u8, out: &mut [u8]) -> Written
     requires { ⌜ endsEarly (now file) ≡ false ⌝ }
@@ -49,7 +37,7 @@ fn write_kept(file: &[u8], n: u8, out: &mut [u8]) -> Written
     requires { ⌜ n ≡ kept (now file) ⌝ }
     ensures { λ r. ⌜ Wrote (salvagedTable (now (file .entry))) (now (out .entry)) r (now (out .exit)) ⌝ }
 {
-    let table = contents::table(file, mark(file[3]), n);
+    let table = contents::table(file, basics::mark_salvaged(file[3]), n);
     writer::write(table, out)
 }
 
@@ -85,6 +73,7 @@ pub fn salvage(file: &[u8], out: &mut [u8]) -> Salvaged
     if refusal.number != 0 {
         return no_salvage(refusal);
     }
+    let promised = file[2];
     let n = kept::count(file);
     if n == 0 {
         return no_salvage(refused(17, 0));
@@ -93,7 +82,6 @@ pub fn salvage(file: &[u8], out: &mut [u8]) -> Salvaged
     if written.refusal.number != 0 {
         return no_salvage(written.refusal);
     }
-    let promised = file[2];
     Salvaged {
         refusal: refused(0, 0),
         length: written.length,

@@ -19,7 +19,7 @@ unfolding salvagedTable
 returns c =
     let made = c .before .before .before .before in
     let is = c .before .before .before .before .before .before .before .before .before .pre .1 .1 in
-    rw (made .table .ensures, made .before .mark .ensures, is) at (c .before .before .write .ensures)
+    rw (made .table .ensures, made .before .mark-salvaged .ensures, is) at (c .before .before .write .ensures)
 
 pub write-kept-spec : {M : Type 1} → statement M
 write-kept-spec =

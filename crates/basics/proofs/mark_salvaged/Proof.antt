@@ -2,8 +2,8 @@
 use borrow.Author.Needs.{needs}
 use mathlib.Core.Path.{_≡_, sym, _∙_}
 use Rattle.rules.specs.Kinds.{marked}
-use Rattle.salvaging.proofs.mark.Statement.{statement}
-use Rattle.salvaging.proofs.mark.Tie as tie
+use Rattle.basics.proofs.mark_salvaged.Statement.{statement}
+use Rattle.basics.proofs.mark_salvaged.Tie as tie
 
 returns : tie.Need-returns
 unfolding marked
@@ -13,5 +13,5 @@ returns-2 : tie.Need-returns-2
 unfolding marked
 returns-2 c = rw (sym (c .before .says-salvaged .ensures) ∙ c .if1 .left)
 
-pub mark-spec : {M : Type 1} → statement M
-mark-spec = tie.close (tie.spec (λ c κs. search needs) returns (λ c. search needs) returns-2)
+pub mark-salvaged-spec : {M : Type 1} → statement M
+mark-salvaged-spec = tie.close (tie.spec (λ c κs. search needs) returns (λ c. search needs) returns-2)
