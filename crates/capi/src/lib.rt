@@ -6,10 +6,9 @@ ghost use Rattle.rules.specs.Operations.{checkFile, checkView};
 ghost use Rattle.rules.specs.Salvage.{salvaging, salvagedOut};
 ghost use Rattle.rules.specs.Listing.{listing};
 ghost use Rattle.text.specs.Put.{Given};
-ghost use Rattle.plain.specs.Codes.{codeOf};
+ghost use Rattle.plain.specs.Codes.{codeOf, salvageCode};
 ghost use Rattle.judged.specs.JudgedFile.{checkJudgedFile, JudgedFile};
 ghost use Rattle.recarry.specs.Files.{carryCode, carryRefusal, CarriedFiles, filesWorsen};
-ghost use Rattle.report.specs.Code.{salvageCode};
 ghost use Rattle.reasons.specs.Reasons.{reasonText};
 ghost use Rattle.shown.specs.Shown.{taskCount, recordPlace};
 
@@ -108,7 +107,7 @@ pub extern "C" fn ryb_salvage(file: &[u8], out: &mut [u8]) -> u64
     ensures { λ r. ⌜ r ≡ salvageCode (salvaging (now (file .entry)) (now (out .entry))) ⌝ }
     ensures { λ _. ⌜ now (out .exit) ≡ salvagedOut (now (file .entry)) (now (out .entry)) ⌝ }
 {
-    report::code(salvaging::salvage(file, out))
+    plain::salvage_code(salvaging::salvage(file, out))
 }
 
 // The words for a refusal's number, whole, and their length; where they do not fit, nothing, and 0.

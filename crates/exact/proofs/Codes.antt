@@ -18,11 +18,10 @@ use Rattle.facts.proofs.Accepted.{sound}
 use Rattle.facts.proofs.Reading.{decoded-accepted}
 use Rattle.facts.proofs.ToJudge.{judged-table}
 use Rattle.places.proofs.Places.{sets-limit, after-sets}
-use Rattle.plain.specs.Codes.{codeOf}
+use Rattle.plain.specs.Codes.{codeOf, salvageCode}
 use Rattle.stored.specs.Stored.{checkOutputs}
 use Rattle.recarry.specs.declared.CarryRefusal.{CarryRefusal}
 use Rattle.recarry.specs.Files.{tableNumber, checkFiles, faultyFile, checkCarry, carryRefusal, carryCode, filesWorsen}
-use Rattle.report.specs.Code.{salvageCode}
 use Rattle.shown.specs.Shown.{taskCount, recordPlace}
 use Rattle.shown.proofs.Shown.{tasks-there, record-there}
 

@@ -34,6 +34,7 @@ promises = record {
   whole = λ s. only-one _;
   check-file = λ s. only-one _;
   read = λ s. only-one _;
+  read-nothing = λ refusal. only-one _;
   view = λ s k. only-one _;
   view-refusal = λ s k. only-one _;
   write = λ t out a b p q. both (p .answered ∙ sym (q .answered)) (p .stored ∙ sym (q .stored));

@@ -19,7 +19,7 @@ use Rattle.rules.specs.Timing as Timing
 use Rattle.rules.specs.Timing.{Row}
 use Rattle.rules.specs.Refusals.{checkTiming, checkBus, boardRefusal, checkBoard, checkTasks, checkTable, checkJudged, checkStart}
 use Rattle.rules.specs.File.{checkWhole}
-use Rattle.rules.specs.Operations.{checkFile, reading, checkToJudge, readToJudge, checkView, viewing, judgeOne, judgeAll}
+use Rattle.rules.specs.Operations.{checkFile, readNothing, reading, checkToJudge, readToJudge, checkView, viewing, judgeOne, judgeAll}
 use Rattle.rules.specs.Salvage.{salvaging, salvagedOut}
 use Rattle.rules.specs.Listing.{refusedLine, tableText, listing, receipt, report}
 use Rattle.changes.specs.declared.Change.{Change}
@@ -28,12 +28,11 @@ use Rattle.judge.specs.Starts.{inPicos}
 use Rattle.rejudge.specs.Carried.{Carried}
 use Rattle.writer.specs.Answers.{Wrote}
 use Rattle.text.specs.Put.{Given}
-use Rattle.plain.specs.Codes.{codeOf}
+use Rattle.plain.specs.Codes.{codeOf, salvageCode}
 use Rattle.judged.specs.JudgedFile.{checkJudgedFile, JudgedFile}
 use Rattle.recarry.specs.declared.CarryRefusal.{CarryRefusal}
 use Rattle.recarry.specs.Files.{carryRefusal, carryCode, CarriedFiles, filesWorsen}
 use Rattle.salvaging.specs.Front.{Salvages}
-use Rattle.report.specs.Code.{salvageCode}
 use Rattle.reasons.specs.Reasons.{reasonText}
 use Rattle.pieces.specs.Pieces.{pieceOf}
 use Rattle.shown.specs.Shown.{taskCount, recordPlace}
@@ -49,6 +48,7 @@ pub record Promises : Type 0 where
   pub whole : (s : List ℕ) → Exact (λ (r : Refusal). r ≡ checkWhole s)
   pub check-file : (s : List ℕ) → Exact (λ (r : Refusal). r ≡ checkFile s)
   pub read : (s : List ℕ) → Exact (λ (r : Read). r ≡ reading s)
+  pub read-nothing : (refusal : Refusal) → Exact (λ (r : Read). r ≡ readNothing refusal)
   pub view : (s : List ℕ) (k : ℕ) → Exact (λ (part : List ℕ). part ≡ viewing s k)
   pub view-refusal : (s : List ℕ) (k : ℕ) → Exact (λ (r : Refusal). r ≡ checkView s k)
   pub write : (t : Table) (out : List ℕ) → Exact (λ (r : Written × List ℕ). Wrote t out (r .0) (r .1))

@@ -1,5 +1,3 @@
--- What the contracts of this crate cite beside the rules.
+-- What an inner function promises. The rules say what a report is.
 --     Counts  the line of the three counts
---     Code    what a salvage tells, in one number
 pub mod Counts
-pub mod Code

@@ -1,4 +1,4 @@
-// The report of a salvage: its line (RULES 8.5), into a lent buffer; and all that it tells in one number, for C (RULES 10.3).
+// The report of a salvage (RULES 8.5): its line, into a lent buffer.
 use rules::Salvaged;
 use text::give;
 use text::put_phrase;
@@ -8,7 +8,6 @@ ghost use lib.ListN.{length};
 ghost use Rattle.rules.specs.Listing.{report};
 ghost use Rattle.text.specs.Put.{Put, Given};
 ghost use Rattle.report.specs.Counts.{countsLine};
-ghost use Rattle.report.specs.Code.{salvageCode};
 
 // The line of the three counts, which takes at most 85 bytes.
 fn put_counts(buf: &mut [u8], r: Salvaged) -> usize
@@ -32,14 +31,4 @@ pub fn line(r: Salvaged, out: &mut [u8]) -> usize
     let mut made = [0u8; 85];
     let n = put_counts(&mut made, r);
     give(&made[..n], out)
-}
-
-// The refusal, the three counts and the length in one.
-pub fn code(r: Salvaged) -> u64
-    requires { ⌜ r .length ≤ 990 ⌝ }
-    ensures { λ n. ⌜ n ≡ salvageCode r ⌝ }
-{
-    let refusal = r.refusal;
-    let counts = r.promised as u64 + 256 * (r.kept as u64) + 65536 * (r.stopped as u64);
-    plain::code(refusal) as u64 + 65536 * counts + 1099511627776 * (r.length as u64)
 }

@@ -4,7 +4,7 @@ use Rattle.capi.proofs.ryb_salvage.Statement.{statement}
 use Rattle.capi.proofs.ryb_salvage.Tie as tie
 
 returns : tie.Need-returns
-returns c = let s = c .before .before .before in (rw (c .code .ensures, s .salvage .ensures .answered), s .salvage .ensures .stored)
+returns c = let s = c .before .before .before in (rw (c .salvage-code .ensures, s .salvage .ensures .answered), s .salvage .ensures .stored)
 
 pub ryb-salvage-spec : {M : Type 1} → statement M
 ryb-salvage-spec =
