@@ -33,7 +33,7 @@ use Rattle.facts.proofs.Instance.{equation-of}
 use Rattle.facts.proofs.AllStarts.{none-refused, all-judgeable, all-answered, fresh-starts, all-fresh}
 use Rattle.facts.proofs.Points.{fresh-right, start-right}
 use Rattle.claims.specs.Point2.{MayBeJudged, JudgedTask, taskAnswer, Decided, Right, PointTwo, HoldsFresh, SafeSide}
-use Rattle.claims.proofs.NoRefusal.{one-plain}
+use Rattle.file_claims.proofs.NoRefusal.{one-plain}
 
 -- ---- a verdict with its delay, by what is right of the verdict
 

@@ -35,7 +35,7 @@ use Rattle.facts.proofs.Worsened.{worsened}
 use Rattle.facts.proofs.Again.{rejudged-verdicts}
 use Rattle.claims.specs.Point2.{JudgedTask, taskAnswer}
 use Rattle.claims.specs.Point3.{NewerWorse, outcomeOf, Counted, AnsweredFromOlder, FromOlder, PointThree, StartsMatter}
-use Rattle.claims.proofs.NoRefusal.{both-tables-plain}
+use Rattle.file_claims.proofs.NoRefusal.{both-tables-plain}
 use Rattle.claims.proofs.Point2.{may, judged-right, one-passed, one-answered, one-open, answered, fresh-answer, fresh-judgeable}
 
 -- ---- the rounds from a start that is not refused

@@ -14,7 +14,7 @@ use Rattle.rules.specs.Refusals.{checkTable, askedFault, lateStart, highStart, 
 use Rattle.rules.specs.Operations.{judgeOne, answersFrom, judgeAll}
 use Rattle.rules.specs.Listing.{tableLines, tableText}
 use Rattle.claims.specs.Sets.{withSets, OnBus, SetsAside}
-use Rattle.claims.proofs.NoRefusal.{table-plain}
+use Rattle.file_claims.proofs.NoRefusal.{table-plain}
 
 module _ (t : Table) (sets : List ℕ) (on : OnBus t sets) where
   abbrev other : Table

@@ -19,7 +19,7 @@ use Rattle.rules.specs.Dram.{conflict, inter, JD}
 use Rattle.rules.specs.Board.{Memory, busMemory, memoryOf}
 use Rattle.rules.specs.Response.{response}
 use Rattle.rules.specs.Figures.{Figure, value, AllAgree, sharing2, sharing-and-apart}
-use Rattle.claims.specs.Files.{AcceptedTable}
+use Rattle.file_claims.specs.Files.{AcceptedTable}
 use Rattle.claims.specs.Point2.{JudgedTask, HoldsFresh}
 
 -- the former rule, of every m, 0 too; it stands nowhere else

@@ -21,7 +21,7 @@ use Rattle.rules.specs.Response.{F, request, job}
 use Rattle.rules.specs.Judgement.{misses, startOf, IsBound}
 use Rattle.rules.specs.Chain.{accepted, isAccepted}
 use Rattle.rules.specs.Operations.{judgeOne, judgeAll, freshStarts}
-use Rattle.claims.specs.Files.{AcceptedTable}
+use Rattle.file_claims.specs.Files.{AcceptedTable}
 
 -- a table that may be judged: it is accepted and is not salvaged (RULES 7.8). Points 2 and 3 speak of no other
 pub record MayBeJudged (t : Table) : Type 0 where

@@ -8,7 +8,7 @@ use Rattle.rules.specs.declared.Answer.{Answer}
 use Rattle.rules.specs.Kinds.{isBus}
 use Rattle.rules.specs.Operations.{judgeOne, judgeAll}
 use Rattle.rules.specs.Listing.{tableText}
-use Rattle.claims.specs.Files.{AcceptedTable}
+use Rattle.file_claims.specs.Files.{AcceptedTable}
 
 -- the same table with other sets
 abbrev pub withSets : List ℕ → Table → Table

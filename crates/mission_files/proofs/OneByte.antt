@@ -8,7 +8,7 @@ use lib.ListN.{length, getD, set}
 use Rattle.laws.proofs.ByteLists.{bytes-by-place}
 use Rattle.rules.specs.declared.Refusal.{Refusal}
 use Rattle.rules.specs.Chain.{isAccepted}
-use Rattle.claims.specs.Files.{Check, Damage}
+use Rattle.file_claims.specs.Files.{Check, Damage}
 
 module _ {check : Check} (damage : Damage check) (s : List ℕ) (i b : ℕ) where
   pub refused-then : ((k : ℕ) → getD s k 0 < 256) → b < 256 → {after : List ℕ} {r : Refusal} → after ≡ set s i b → r ≡ check after

@@ -5,7 +5,7 @@ use mathlib.Core.List.{List, _++_}
 use lib.ListN.{length, take, drop}
 use Rattle.rules.specs.declared.Table.{Table}
 use Rattle.rules.specs.Operations.{writing, outAfter}
-use Rattle.claims.specs.Files.{AcceptedFile}
+use Rattle.file_claims.specs.Files.{AcceptedFile}
 
 -- the bytes that writing t puts at the front of a buffer
 abbrev pub writtenTo : List ℕ → Table → List ℕ

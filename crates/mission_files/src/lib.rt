@@ -8,7 +8,7 @@ ghost use lib.ListN.{length, take, getD, set, replicate};
 ghost use Rattle.rules.specs.Chain.{accepted, isAccepted};
 ghost use Rattle.rules.specs.File.{checkWhole};
 ghost use Rattle.rules.specs.Operations.{checkFile, reading, writing, outAfter};
-ghost use Rattle.claims.specs.Files.{AcceptedFile, AcceptedTable, cleared};
+ghost use Rattle.file_claims.specs.Files.{AcceptedFile, AcceptedTable, cleared};
 ghost use Rattle.mission_files.specs.Written.{writtenTo, WrittenBack};
 use bytes::front;
 use rules::Read;

@@ -16,7 +16,7 @@ use Rattle.facts.proofs.Accepted.{sound}
 use Rattle.facts.proofs.Reading.{refusal-read, decoded-accepted}
 use Rattle.kept.proofs.Leading.{leading-is}
 use Rattle.kept.proofs.Sound.{cut-off, by-fault}
-use Rattle.claims.proofs.Files.{point-one}
+use Rattle.file_claims.proofs.Files.{point-one}
 use Rattle.salvage_claims.specs.NewFile.{Salvages}
 use Rattle.salvage_claims.specs.Cut.{CutFile, fitting, TakenBack, Cut}
 use Rattle.salvage_claims.proofs.Passed.{passes}

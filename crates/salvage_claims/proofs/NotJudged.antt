@@ -12,8 +12,8 @@ use Rattle.rules.specs.File.{formIn, decode}
 use Rattle.rules.specs.Operations.{reading, checkFile, checkToJudge, readToJudge, judgeOne, judgeAll, checkBoth, faultyOf, isCarried, rejudging}
 use Rattle.rules.specs.Listing.{refusedLine, tableText, listing}
 use Rattle.facts.proofs.Reading.{refusal-read, read-table}
-use Rattle.claims.specs.Files.{AcceptedTable, AcceptedFile}
-use Rattle.claims.proofs.NoRefusal.{table-plain}
+use Rattle.file_claims.specs.Files.{AcceptedTable, AcceptedFile}
+use Rattle.file_claims.proofs.NoRefusal.{table-plain}
 use Rattle.claims.proofs.Point2.{may, may-back}
 use Rattle.salvage_claims.specs.NotJudged.{NotJudged, NoneJudged}
 

@@ -18,10 +18,10 @@ use Rattle.rules.specs.Operations.{reading}
 use Rattle.rules.specs.Salvage.{endsEarly, kept, salvagedTable}
 use Rattle.places.proofs.Places.{records-limit, record-place, record-within}
 use Rattle.kept.proofs.Kept.{kept-reach, salvaged-accepted}
-use Rattle.claims.specs.Files.{Shape, cleared}
-use Rattle.claims.proofs.Places.{header}
-use Rattle.claims.proofs.FromFile.{already-cleared, shape-of-read, body-read}
-use Rattle.claims.proofs.Files.{return, return-in-place}
+use Rattle.file_claims.specs.Files.{Shape, cleared}
+use Rattle.file_claims.proofs.Places.{header}
+use Rattle.file_claims.proofs.FromFile.{already-cleared, shape-of-read, body-read}
+use Rattle.file_claims.proofs.Files.{return, return-in-place}
 use Rattle.kept.proofs.Parts.{parts-agree}
 use Rattle.salvage_claims.proofs.MarkedPlaces.{marked-size, marked-record, marked-place}
 

@@ -5,7 +5,7 @@ use mathlib.Core.List.{List}
 use lib.ListN.{length, take}
 use Rattle.rules.specs.File.{recordsAt, recordSize, recordAt, recordIn, coresIn, tasksIn, formIn}
 use Rattle.rules.specs.Salvage.{salvaging}
-use Rattle.claims.specs.Files.{AcceptedFile}
+use Rattle.file_claims.specs.Files.{AcceptedFile}
 use Rattle.salvage_claims.specs.NewFile.{Salvages}
 
 -- the first n bytes of an accepted file: not all of it, but its sets and its first record

@@ -12,7 +12,7 @@ use Rattle.rules.specs.Chain.{refused, isAccepted}
 use Rattle.rules.specs.Refusals.{checkJudged}
 use Rattle.rules.specs.Operations.{reading, noAnswers, judgeOne, judgeAll, rejudging}
 use Rattle.rules.specs.Listing.{refusedLine, tableText, listing}
-use Rattle.claims.specs.Files.{AcceptedTable, AcceptedFile}
+use Rattle.file_claims.specs.Files.{AcceptedTable, AcceptedFile}
 use Rattle.claims.specs.Point2.{MayBeJudged}
 
 -- each is refused by 18, and answers nothing: one task, all, a newer table after this one, this one after an older, and the listing

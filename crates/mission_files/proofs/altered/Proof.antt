@@ -5,7 +5,7 @@ use native.Mathlib.Omega.{arith}
 use Prim.Native.Nat.{ℕ, _<_}
 use lib.ListN.{getD}
 use Rattle.facts.proofs.Reading.{refusal-read}
-use Rattle.claims.proofs.Files.{point-one}
+use Rattle.file_claims.proofs.Files.{point-one}
 use Rattle.mission_files.proofs.OneByte.{refused-then}
 use Rattle.mission_files.proofs.altered.Statement.{statement}
 use Rattle.mission_files.proofs.altered.Tie as tie

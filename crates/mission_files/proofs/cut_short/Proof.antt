@@ -1,7 +1,7 @@
 -- A cut file is refused by `check`. Assumes nothing.
 use borrow.Author.Needs.{needs}
 use Rattle.facts.proofs.Reading.{refusal-read}
-use Rattle.claims.proofs.Files.{point-one}
+use Rattle.file_claims.proofs.Files.{point-one}
 use Rattle.mission_files.proofs.cut_short.Statement.{statement}
 use Rattle.mission_files.proofs.cut_short.Tie as tie
 

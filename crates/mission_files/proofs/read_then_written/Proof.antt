@@ -4,7 +4,7 @@ use mathlib.Core.Path.{refl}
 use native.Mathlib.Omega.{arith}
 use Prim.Native.Nat.{ℕ, _<_}
 use lib.ListN.{getD}
-use Rattle.claims.proofs.Files.{return-in-place}
+use Rattle.file_claims.proofs.Files.{return-in-place}
 use Rattle.laws.proofs.ByteLists.{bytes-by-place}
 use Rattle.mission_files.proofs.read_then_written.Statement.{statement}
 use Rattle.mission_files.proofs.read_then_written.Tie as tie

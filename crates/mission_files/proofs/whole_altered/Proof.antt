@@ -3,7 +3,7 @@ use borrow.Author.Needs.{needs}
 use native.Mathlib.Omega.{arith}
 use Prim.Native.Nat.{ℕ, _<_}
 use lib.ListN.{getD}
-use Rattle.claims.proofs.Files.{point-one}
+use Rattle.file_claims.proofs.Files.{point-one}
 use Rattle.mission_files.proofs.OneByte.{refused-then}
 use Rattle.mission_files.proofs.whole_altered.Statement.{statement}
 use Rattle.mission_files.proofs.whole_altered.Tie as tie

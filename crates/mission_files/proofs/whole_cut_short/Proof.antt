@@ -1,6 +1,6 @@
 -- A cut file did not come whole. Assumes nothing.
 use borrow.Author.Needs.{needs}
-use Rattle.claims.proofs.Files.{point-one}
+use Rattle.file_claims.proofs.Files.{point-one}
 use Rattle.mission_files.proofs.whole_cut_short.Statement.{statement}
 use Rattle.mission_files.proofs.whole_cut_short.Tie as tie
 

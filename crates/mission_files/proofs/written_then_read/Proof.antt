@@ -7,8 +7,8 @@ use lib.ListN.{length, replicate}
 use lib.Seq.{length-take-le}
 use Rattle.rules.specs.declared.Written.{Written}
 use Rattle.laws.proofs.Runs.{unmapped}
-use Rattle.claims.specs.Files.{Shape}
-use Rattle.claims.proofs.Files.{return-in-place}
+use Rattle.file_claims.specs.Files.{Shape}
+use Rattle.file_claims.proofs.Files.{return-in-place}
 use Rattle.mission_files.proofs.written_then_read.Statement.{statement}
 use Rattle.mission_files.proofs.written_then_read.Tie as tie
 

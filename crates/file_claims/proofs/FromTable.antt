@@ -13,15 +13,15 @@ use Rattle.facts.proofs.SoundTasks.{tasks-there}
 use Rattle.laws.specs.Idioms.{below, upTo, filled, numberIn, bytesOf, part}
 use Rattle.laws.specs.Bytes.{Bytes, none, more}
 use Rattle.laws.proofs.Bytes.{bytes-length, bytes-are, number-bytes}
-use Rattle.claims.specs.Files.{AcceptedTable, Shape, cleared}
+use Rattle.file_claims.specs.Files.{AcceptedTable, Shape, cleared}
 use Rattle.laws.proofs.ByteLists.{bytes-append, bytes-joined}
 use Rattle.laws.proofs.Rows.{read-back}
 use Rattle.laws.proofs.Runs.{joined-take}
-use Rattle.claims.proofs.Codes.{number-code, task-code, record-bytes, task-known}
+use Rattle.file_claims.proofs.Codes.{number-code, task-code, record-bytes, task-known}
 use Rattle.arrival.proofs.Came.{Whole}
-use Rattle.claims.proofs.Whole.{trailer-length, trailed-whole}
-use Rattle.claims.proofs.Places.{header, figureBytes, setBytes, taskBytes, body-parts, encode-parts, figure-ladder, set-ladder, record-ladder, sets-after-figures, records-after-sets, trailer-after-records}
-use Rattle.claims.proofs.Widths.{figure-fits, set-fits, task-fits}
+use Rattle.file_claims.proofs.Whole.{trailer-length, trailed-whole}
+use Rattle.file_claims.proofs.Places.{header, figureBytes, setBytes, taskBytes, body-parts, encode-parts, figure-ladder, set-ladder, record-ladder, sets-after-figures, records-after-sets, trailer-after-records}
+use Rattle.file_claims.proofs.Widths.{figure-fits, set-fits, task-fits}
 
 module _ {t : Table} (shape : Shape t) (passed : AcceptedTable t) where
   -- ---- the lengths of its parts

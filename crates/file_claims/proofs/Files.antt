@@ -17,14 +17,14 @@ use Rattle.laws.proofs.Tests.{fails}
 use Rattle.rules.proofs.EveryRule.{every-rule}
 use Rattle.facts.proofs.Chain.{both-accepted, no-fault}
 use Rattle.facts.proofs.Reading.{reading-is, refusal-read, decoded-accepted, read-table, read-accepted}
-use Rattle.claims.specs.Files.{AcceptedFile, AcceptedTable, Check, readCheck, Damage, PointOne, Shape, cleared, Return, ReturnInPlace, OneToOne, NotEmpty}
+use Rattle.file_claims.specs.Files.{AcceptedFile, AcceptedTable, Check, readCheck, Damage, PointOne, Shape, cleared, Return, ReturnInPlace, OneToOne, NotEmpty}
 use Rattle.arrival.proofs.Came.{whole, came-whole}
-use Rattle.claims.proofs.Damage.{not-cut, not-altered}
-use Rattle.claims.proofs.FromFile.{already-cleared, shape-of-read, written-again}
-use Rattle.claims.proofs.FromTable.{file-small, encode-whole, read-again}
-use Rattle.claims.proofs.NoRefusal.{table-plain}
-use Rattle.claims.proofs.Parts.{accepted-whole}
-use Rattle.claims.proofs.Cleared.{cleared-same}
+use Rattle.file_claims.proofs.Damage.{not-cut, not-altered}
+use Rattle.file_claims.proofs.FromFile.{already-cleared, shape-of-read, written-again}
+use Rattle.file_claims.proofs.FromTable.{file-small, encode-whole, read-again}
+use Rattle.file_claims.proofs.NoRefusal.{table-plain}
+use Rattle.file_claims.proofs.Parts.{accepted-whole}
+use Rattle.file_claims.proofs.Cleared.{cleared-same}
 
 -- ---- an accepted file
 

@@ -12,7 +12,7 @@ use Rattle.laws.specs.Bytes.{Bytes}
 use Rattle.laws.proofs.Bytes.{number-bytes}
 use Rattle.laws.proofs.ByteLists.{part-join, part-known}
 use Rattle.arrival.proofs.Came.{Whole}
-use Rattle.claims.proofs.ByteSums.{sum-fits, running-fits}
+use Rattle.file_claims.proofs.ByteSums.{sum-fits, running-fits}
 
 -- what stands before the trailer
 abbrev pub before : List ℕ → List ℕ

@@ -11,7 +11,7 @@ use Rattle.rules.specs.Kinds.{isSalvaged}
 use Rattle.rules.specs.Chain.{accepted, isAccepted}
 use Rattle.rules.specs.Refusals.{checkTable, askedFault, lateStart, highStart, checkJudged, checkStart, checkOne}
 use Rattle.rules.specs.Operations.{checkBoth}
-use Rattle.claims.proofs.Numbers.{Gives, nothing, some, both-give, given-gives, wider, OfTable, table-gives}
+use Rattle.file_claims.proofs.Numbers.{Gives, nothing, some, both-give, given-gives, wider, OfTable, table-gives}
 
 -- accepted by its number is accepted as a whole
 abbrev pub Plain : Refusal → Type 0

@@ -12,14 +12,14 @@ use Rattle.rules.specs.File.{setsAt, recordsAt, recordSize, recordBytes, record
 use Rattle.facts.proofs.Accepted.{sound}
 use Rattle.laws.specs.Idioms.{from, filled, numberIn, part}
 use Rattle.laws.specs.Bytes.{Bytes}
-use Rattle.claims.specs.Files.{AcceptedTable, Shape, cleared}
+use Rattle.file_claims.specs.Files.{AcceptedTable, Shape, cleared}
 use Rattle.laws.proofs.Runs.{length-map-from}
 use Rattle.laws.proofs.Filled.{filled-length, take-filled}
 use Rattle.laws.proofs.Rows.{written-back}
-use Rattle.claims.proofs.Codes.{number-code, task-code}
+use Rattle.file_claims.proofs.Codes.{number-code, task-code}
 use Rattle.arrival.proofs.Came.{Whole}
-use Rattle.claims.proofs.Whole.{before, before-and-trailer}
-use Rattle.claims.proofs.Places.{header, figureBytes, setBytes, taskBytes, body-parts, figure-ladder, set-ladder, record-ladder, sets-after-figures, records-after-sets, trailer-after-records, parts-joined}
+use Rattle.file_claims.proofs.Whole.{before, before-and-trailer}
+use Rattle.file_claims.proofs.Places.{header, figureBytes, setBytes, taskBytes, body-parts, figure-ladder, set-ladder, record-ladder, sets-after-figures, records-after-sets, trailer-after-records, parts-joined}
 
 module _ (s : List ℕ) where
   setIn : ℕ → ℕ

@@ -10,9 +10,9 @@ use lib.Seq.{length-take-le, getD-take, take-set-le, take-set-lt, drop-set-lt, g
 use Rattle.rules.specs.File.{trailer}
 use Rattle.laws.specs.Bytes.{Bytes}
 use Rattle.laws.proofs.ByteLists.{bytes-set}
-use Rattle.claims.proofs.ByteSums.{sum-set}
+use Rattle.file_claims.proofs.ByteSums.{sum-set}
 use Rattle.arrival.proofs.Came.{Whole}
-use Rattle.claims.proofs.Whole.{before, before-and-trailer}
+use Rattle.file_claims.proofs.Whole.{before, before-and-trailer}
 
 -- the length of a whole file is told by bytes that a cut keeps
 pub not-cut : {s : List ℕ} (n : ℕ) → n < length s → Whole s → Whole (take n s) → ⊥

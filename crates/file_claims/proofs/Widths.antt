@@ -11,7 +11,7 @@ use Rattle.rules.specs.Tasks.{noTask}
 use Rattle.rules.specs.Chain.{isAccepted}
 use Rattle.rules.specs.Refusals.{checkTable}
 use Rattle.facts.proofs.Accepted.{sound}
-use Rattle.claims.proofs.Codes.{Fits}
+use Rattle.file_claims.proofs.Codes.{Fits}
 
 -- places of a list are counted from 0, figures, cores and tasks from 1
 from-one : (k : ℕ) → suc k - 1 ≡ k

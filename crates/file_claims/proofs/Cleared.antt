@@ -14,7 +14,7 @@ use Rattle.rules.specs.Chain.{_orElse_, given}
 use Rattle.rules.specs.Refusals.{countsFault, checkRow, setFault, coreFault, timeFault, requestFault, boardRefusal, tasksRefusal, checkBoard, checkTasks, checkTable}
 use Rattle.facts.proofs.Accepted.{sound}
 use Rattle.facts.proofs.First.{first-same}
-use Rattle.claims.specs.Files.{AcceptedTable, Shape, cleared}
+use Rattle.file_claims.specs.Files.{AcceptedTable, Shape, cleared}
 
 -- a used place is kept, whatever the others are filled with
 kept : {A : Type 0} (m n : ℕ) (d fill : A) (l : List A) (p : ℕ) → n ≤ length l → 1 ≤ p → p ≤ n → entry d (filled m fill (take n l)) p ≡ entry d l p

@@ -13,8 +13,8 @@ use Rattle.rules.specs.File.{checkWhole, decode}
 use Rattle.rules.specs.Operations.{taking, reading, checkFile}
 use Rattle.facts.proofs.Chain.{first-refuses, second-decides}
 use Rattle.facts.proofs.Reading.{reading-is, refusal-read, file-whole}
-use Rattle.claims.specs.Parts.{TwoParts}
-use Rattle.claims.proofs.Numbers.{Gives, nothing, some, OfWhole, whole-gives, OfTable, table-gives}
+use Rattle.file_claims.specs.Parts.{TwoParts}
+use Rattle.file_claims.proofs.Numbers.{Gives, nothing, some, OfWhole, whole-gives, OfTable, table-gives}
 
 first-of : {r : Refusal} → Gives OfWhole r → OfWhole r
 first-of nothing = (omega arith, refl)
