@@ -36,11 +36,11 @@ zero-accepted r e = go (isAccepted r) refl e
 -- ryb_carry: all tasks are judged, and 0 is returned only there
 module _ (older newer bounds rounds by : List ℕ) where
   pub zero-carried : carryCode (carryRefusal older newer bounds rounds by) ≡ 0 → isAccepted (checkCarry older newer bounds rounds by) ≡ true
-  unfolding carryRefusal
+  unfolding carryRefusal carryCode
   zero-carried e = zero-accepted (checkCarry older newer bounds rounds by) (omega arith)
 
   pub carried-zero : isAccepted (checkCarry older newer bounds rounds by) ≡ true → carryCode (carryRefusal older newer bounds rounds by) ≡ 0
-  unfolding carryRefusal checkCarry checkFiles faultyFile
+  unfolding carryRefusal carryCode checkCarry checkFiles faultyFile
   carried-zero e =
       let files = both-accepted (checkToJudge older orElse checkToJudge newer) (checkOutputs (tasksIn newer) bounds rounds by) e in
       let (was, is) = both-accepted (checkToJudge older) (checkToJudge newer) (files .0) in
@@ -54,6 +54,7 @@ parts-back r h g e = rw e (omega arith, omega arith)
 
 pub carried-parts-back : (r : CarryRefusal) → r .refusal .number < 256 → r .refusal .place < 256 → isAccepted (r .refusal) ≡ false
     → (carryCode r % 256 ≡ r .refusal .number) × (carryCode r / 256 % 256 ≡ r .refusal .place) × (carryCode r / 65536 ≡ tableNumber (r .faulty))
+unfolding carryCode
 carried-parts-back r h g e = rw e (omega arith, omega arith, omega arith)
 
 -- RYB_PROMISED, RYB_KEPT, RYB_STOPPED and RYB_LENGTH give back what ryb_salvage tells, and RYB_NUMBER is 0 exactly if nothing is refused

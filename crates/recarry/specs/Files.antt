@@ -37,7 +37,7 @@ tableNumber Neither = 0
 tableNumber Older = 1
 tableNumber Newer = 2
 
-abbrev pub carryCode : CarryRefusal → ℕ
+unfoldable pub carryCode : CarryRefusal → ℕ
 carryCode r = codeOf (r .refusal) + 65536 * tableNumber (r .faulty)
 
 -- the answers of the newer file's tasks after the older file

@@ -7,8 +7,8 @@ use borrow.Author.Tests.{le-ltb, lt-ltb, not-true, not-false}
 use Rattle.laws.specs.Idioms.{within}
 use Rattle.rules.specs.Kinds.{fourthAllowed}
 use Rattle.rules.specs.Refusals.{countsFault}
-use Rattle.checks.proofs.counts_fault.Statement.{statement}
-use Rattle.checks.proofs.counts_fault.Tie as tie
+use Rattle.limits.proofs.counts_fault.Statement.{statement}
+use Rattle.limits.proofs.counts_fault.Tie as tie
 
 -- what each test that passed says
 cores-in : (c : tie.Else1) → within 1 8 (c .before .before .args .cores) ≡ true

@@ -7,8 +7,8 @@ use lib.Dec.{lit<}
 use borrow.Author.Needs.{needs}
 use borrow.Author.Tests.{eq-eqb, ne-eqb, lt-ltb, le-ltb}
 use Rattle.rules.specs.Refusals.{setFault}
-use Rattle.checks.proofs.set_fault.Statement.{statement}
-use Rattle.checks.proofs.set_fault.Tie as tie
+use Rattle.limits.proofs.set_fault.Statement.{statement}
+use Rattle.limits.proofs.set_fault.Tie as tie
 
 -- what the shift gives
 shifted : (n : ℕ) → n ≤ 16 → 1 * 2 ^ n % 4294967296 ≡ 2 ^ n

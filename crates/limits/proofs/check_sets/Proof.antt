@@ -9,8 +9,8 @@ use lib.ListN.{getD}
 use Rattle.laws.specs.Idioms.{entry}
 use Rattle.rules.specs.Refusals.{setFault}
 use Rattle.facts.proofs.First.{Left, left-all, left-hit, left-next, left-none}
-use Rattle.checks.proofs.check_sets.Statement.{statement}
-use Rattle.checks.proofs.check_sets.Tie as tie
+use Rattle.limits.proofs.check_sets.Statement.{statement}
+use Rattle.limits.proofs.check_sets.Tie as tie
 
 abbrev Inv-loop : tie.InvT-loop
 Inv-loop cores partitions sets i₀ i = Left 8 (λ p. setFault partitions (entry 0 sets p)) cores i
