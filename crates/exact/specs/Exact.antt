@@ -24,7 +24,7 @@ use Rattle.rules.specs.Salvage.{salvaging, salvagedOut}
 use Rattle.rules.specs.Listing.{refusedLine, tableText, listing, receipt, report}
 use Rattle.changes.specs.declared.Change.{Change}
 use Rattle.changes.specs.Difference as Difference
-use Rattle.judge.specs.Starts.{inPicos}
+use Rattle.starts.specs.Starts.{inPicos}
 use Rattle.rejudge.specs.Carried.{Carried}
 use Rattle.writer.specs.Answers.{Wrote}
 use Rattle.text.specs.Put.{Given}

@@ -2,7 +2,7 @@
 ghost use mathlib.Core.Path.{_≡_};
 ghost use Rattle.rules.specs.Operations.{judgeOne, judgeAll};
 ghost use Rattle.columns.specs.Numbered.{notJudged};
-ghost use Rattle.judge.specs.Starts.{inPicos};
+ghost use Rattle.starts.specs.Starts.{inPicos};
 use basics::refused;
 use rules::AllJudged;
 use rules::Judged;
@@ -37,19 +37,6 @@ pub fn judge_one(table: Table, k: u8, start: Picos) -> Judged
     }
 }
 
-// The starts as a column of numbers.
-fn numbers(starts: [Picos; 32]) -> [u64; 32]
-    ensures { λ r. ⌜ r ≡ inPicos starts ⌝ }
-{
-    let mut column = [0u64; 32];
-    let mut i: usize = 0;
-    while i < 32 {
-        column[i] = starts[i].0;
-        i += 1;
-    }
-    column
-}
-
 // RULES 6.3, of all tasks: refusals 5 to 11, 16, 13 and 14, or the answers.
 pub fn judge_all(table: Table, starts: [Picos; 32]) -> AllJudged
     ensures { λ r. ⌜ r ≡ judgeAll table (inPicos starts) ⌝ }
@@ -58,5 +45,5 @@ pub fn judge_all(table: Table, starts: [Picos; 32]) -> AllJudged
     if refusal.number != 0 {
         return unjudged::none_judged(refusal);
     }
-    columns::judge_tasks(table, numbers(starts))
+    columns::judge_tasks(table, starts::numbers(starts))
 }

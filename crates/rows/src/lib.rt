@@ -1,44 +1,12 @@
 // The rows of a listing, into a buffer that has room for them: a line for each task.
 use rules::Answer;
-use rules::Delay;
 use rules::Table;
-use rules::Verdict;
 use text::put_field;
-use text::put_phrase;
-ghost use mathlib.Core.List.{[], _∷_, _++_};
 ghost use Prim.Native.Nat.{_+_, _≤_};
 ghost use lib.ListN.{length};
-ghost use Rattle.laws.specs.Decimal.{decimal};
-ghost use Rattle.rules.specs.Listing.{line, delayWord, verdictWords, taskLine};
+ghost use Rattle.rules.specs.Listing.{taskLine};
 ghost use Rattle.text.specs.Put.{Put};
 ghost use Rattle.rows.specs.Rows.{rows};
-
-// The end of a line that holds: deciding delay and rounds.
-fn put_delay(buf: &mut [u8], at: usize, by: Delay, rounds: u64) -> usize
-    requires { ⌜ at + 29 ≤ length (now buf) ⌝ }
-    ensures { λ r. ⌜ Put (now (buf .entry)) at (line (delayWord by ∷ decimal rounds ∷ [])) r (now (buf .exit)) ⌝ }
-    ensures { λ r. ⌜ r ≤ at + 29 ⌝ }
-{
-    match by {
-        Delay::Request => put_phrase(buf, at, b"request ", rounds, b'\n'),
-        Delay::Job => put_phrase(buf, at, b"job ", rounds, b'\n'),
-    }
-}
-
-// The end of a line: verdict, bound, deciding delay and rounds.
-fn put_answer(buf: &mut [u8], at: usize, verdict: Verdict, rounds: u64) -> usize
-    requires { ⌜ at + 56 ≤ length (now buf) ⌝ }
-    ensures { λ r. ⌜ Put (now (buf .entry)) at (line (verdictWords verdict ++ decimal rounds ∷ [])) r (now (buf .exit)) ⌝ }
-    ensures { λ r. ⌜ r ≤ at + 56 ⌝ }
-{
-    match verdict {
-        Verdict::Misses => put_phrase(buf, at, b"misses - - ", rounds, b'\n'),
-        Verdict::Holds(bound, by) => {
-            let end = put_phrase(buf, at, b"holds ", bound.0, b' ');
-            put_delay(buf, end, by, rounds)
-        }
-    }
-}
 
 // The line of task number k.
 fn put_row(buf: &mut [u8], at: usize, k: u64, core: u8, answer: Answer) -> usize
@@ -49,7 +17,7 @@ fn put_row(buf: &mut [u8], at: usize, k: u64, core: u8, answer: Answer) -> usize
     let verdict = answer.verdict;
     let number = put_field(buf, at, k, b' ');
     let end = put_field(buf, number, core as u64, b' ');
-    put_answer(buf, end, verdict, answer.rounds)
+    words::put_answer(buf, end, verdict, answer.rounds)
 }
 
 // The lines of all tasks.

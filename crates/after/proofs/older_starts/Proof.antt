@@ -8,7 +8,7 @@ use lib.Seq.{take-all}
 use Rattle.rules.specs.declared.Answer.{Answer}
 use Rattle.rules.specs.Judgement.{misses, boundOf}
 use Rattle.rules.specs.Operations.{answersFrom, fresh}
-use Rattle.judge.proofs.Column.{Column, column-none, column-next}
+use Rattle.starts.proofs.Column.{Column, column-none, column-next}
 use Rattle.facts.proofs.AllStarts.{all-fresh, answers-long, fresh-starts, bounds-of-answers}
 use Rattle.facts.proofs.Starts.{judged-accepted}
 use Rattle.facts.proofs.LentStarts.{answers-same}

@@ -4,7 +4,7 @@ use mathlib.Core.Path.{_∙_, ap}
 use Rattle.facts.proofs.Chain.{passes, refuses}
 use Rattle.unjudged.specs.Unjudged.{noneJudged}
 use Rattle.rules.specs.Operations.{judgeAll}
-use Rattle.judge.specs.Starts.{inPicos}
+use Rattle.starts.specs.Starts.{inPicos}
 use Rattle.judge.proofs.Links.{all-table}
 use Rattle.judge.proofs.judge_all.Statement.{statement}
 use Rattle.judge.proofs.judge_all.Tie as tie

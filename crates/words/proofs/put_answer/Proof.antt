@@ -2,8 +2,8 @@
 use borrow.Author.Needs.{needs}
 use Rattle.rules.specs.Listing.{verdictWords}
 use Rattle.text.proofs.Put.{_then_}
-use Rattle.rows.proofs.put_answer.Statement.{statement}
-use Rattle.rows.proofs.put_answer.Tie as tie
+use Rattle.words.proofs.put_answer.Statement.{statement}
+use Rattle.words.proofs.put_answer.Tie as tie
 
 returns : tie.Need-returns
 unfolding verdictWords

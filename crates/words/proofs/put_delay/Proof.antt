@@ -1,8 +1,8 @@
 -- `put_delay` meets its contract. Assumes nothing.
 use borrow.Author.Needs.{needs}
 use Rattle.rules.specs.Listing.{delayWord}
-use Rattle.rows.proofs.put_delay.Statement.{statement}
-use Rattle.rows.proofs.put_delay.Tie as tie
+use Rattle.words.proofs.put_delay.Statement.{statement}
+use Rattle.words.proofs.put_delay.Tie as tie
 
 returns : tie.Need-returns
 unfolding delayWord

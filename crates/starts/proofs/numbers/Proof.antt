@@ -8,9 +8,9 @@ use lib.Seq.{take-all}
 use Rattle.rules.specs.declared.Picos.{Picos}
 use Rattle.rules.specs.Units.{ps}
 use Rattle.laws.proofs.Runs.{unmapped}
-use Rattle.judge.proofs.Column.{Column, column-none, column-next}
-use Rattle.judge.proofs.numbers.Statement.{statement}
-use Rattle.judge.proofs.numbers.Tie as tie
+use Rattle.starts.proofs.Column.{Column, column-none, column-next}
+use Rattle.starts.proofs.numbers.Statement.{statement}
+use Rattle.starts.proofs.numbers.Tie as tie
 
 abbrev Inv-loop : tie.InvT-loop
 Inv-loop starts column₀ i₀ column i = (i ≤ 32) × Column (λ (t : Picos). t .0) starts 32 i column

@@ -1,3 +1,0 @@
--- What the contracts of judging cite beside the rules.
---     Starts    starts as numbers
-pub mod Starts
