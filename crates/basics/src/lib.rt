@@ -1,6 +1,8 @@
-// Small steps that many crates take: a refusal made, the kind of a table asked for, the larger of two numbers.
+// Small steps that many crates take: a refusal made, the kind of a table asked for and its mark, a number held to its limits, the larger of two numbers.
 ghost use mathlib.Core.Path.{_≡_};
+ghost use mathlib.Core.Bool.{not};
 ghost use Prim.Native.Nat.{max, _<_};
+ghost use Rattle.laws.specs.Idioms.{within};
 ghost use Rattle.rules.specs.Chain.{refused};
 ghost use Rattle.rules.specs.Kinds.{saysBus, saysSalvaged, marked};
 use rules::Refusal;
@@ -35,6 +37,19 @@ pub fn mark_salvaged(fourth: u8) -> u8
         return fourth;
     }
     fourth + 2
+}
+
+// Is x below the lowest or above the highest?
+pub fn outside(lowest: u64, highest: u64, x: u64) -> bool
+    ensures { λ r. ⌜ r ≡ not (within lowest highest x) ⌝ }
+{
+    if x < lowest {
+        return true;
+    }
+    if highest < x {
+        return true;
+    }
+    false
 }
 
 pub fn most(a: u64, b: u64) -> u64

@@ -107,7 +107,7 @@ pub extern "C" fn ryb_salvage(file: &[u8], out: &mut [u8]) -> u64
     ensures { λ r. ⌜ r ≡ salvageCode (salvaging (now (file .entry)) (now (out .entry))) ⌝ }
     ensures { λ _. ⌜ now (out .exit) ≡ salvagedOut (now (file .entry)) (now (out .entry)) ⌝ }
 {
-    plain::salvage_code(salvaging::salvage(file, out))
+    salvaging::salvage_told(file, out)
 }
 
 // The words for a refusal's number, whole, and their length; where they do not fit, nothing, and 0.

@@ -29,6 +29,10 @@ stored rule refusal answers bounds rounds by a b p q =
 given : (text out : List ℕ) → Exact (λ (r : ℕ × List ℕ). Given text out (r .0) (r .1))
 given text out a b p q = both (p .length-is ∙ sym (q .length-is)) (p .bytes-are ∙ sym (q .bytes-are))
 
+-- a number, and a lent buffer
+told : (rule : ℕ) (after : List ℕ) → Exact (λ (r : ℕ × List ℕ). (r .0 ≡ rule) × (r .1 ≡ after))
+told rule after a b p q = both (p .0 ∙ sym (q .0)) (p .1 ∙ sym (q .1))
+
 pub promises : Promises
 promises = record {
   whole = λ s. only-one _;
@@ -41,6 +45,7 @@ promises = record {
   check-to-judge = λ s. only-one _;
   read-to-judge = λ s. only-one _;
   salvage = λ s out a b p q. both (p .answered ∙ sym (q .answered)) (p .stored ∙ sym (q .stored));
+  salvage-told = λ s out. told _ _;
   front = λ input n. only-one _;
   ddr3-1333 = only-one _;
   check-timing = λ row. only-one _;
@@ -80,6 +85,6 @@ promises = record {
   ryb-record = λ s k. only-one _;
   ryb-carry = λ older newer bounds rounds by a b p q. stored _ _ _ bounds rounds by a b (p .0, p .1 .stored) (q .0, q .1 .stored);
   ryb-worsens = λ older newer. only-one _;
-  ryb-salvage = λ s out a b p q. both (p .0 ∙ sym (q .0)) (p .1 ∙ sym (q .1));
+  ryb-salvage = λ s out. told _ _;
   ryb-reason = λ number out. given _ out;
 }

@@ -57,6 +57,7 @@ pub record Promises : Type 0 where
   pub read-to-judge : (s : List ℕ) → Exact (λ (r : Read). r ≡ readToJudge s)
   -- salvaging
   pub salvage : (s out : List ℕ) → Exact (λ (r : Salvaged × List ℕ). Salvages s out (r .0) (r .1))
+  pub salvage-told : (s out : List ℕ) → Exact (λ (r : ℕ × List ℕ). (r .0 ≡ salvageCode (salvaging s out)) × (r .1 ≡ salvagedOut s out))
   -- input
   pub front : (input : List ℕ) (n : ℕ) → Exact (λ (part : List ℕ). part ≡ take n input)
   -- timing and tasks

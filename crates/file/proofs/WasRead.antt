@@ -5,14 +5,13 @@ use mathlib.Core.List.{List}
 use Prim.Native.Nat.{ℕ}
 use Rattle.rules.specs.declared.Read.{Read}
 use Rattle.rules.specs.Chain.{isAccepted}
-use Rattle.rules.specs.Refusals.{checkTable}
 use Rattle.rules.specs.File.{decode}
 use Rattle.rules.specs.Operations.{checkFile, reading}
 use Rattle.facts.proofs.Chain.{passes, refuses}
-use Rattle.facts.proofs.Reading.{refusal-read, decoded-accepted, read-table}
+use Rattle.facts.proofs.Reading.{refusal-read, read-table}
 
 module _ (s : List ℕ) {r : Read} (is : r ≡ reading s) where
-  pub refusal-of : r .refusal ≡ checkFile s
+  refusal-of : r .refusal ≡ checkFile s
   refusal-of = ap (λ (x : Read). x .refusal) is ∙ refusal-read s
 
   pub not-accepted : (r .refusal .number ≡ 0 → ⊥) → isAccepted (checkFile s) ≡ false
@@ -24,6 +23,3 @@ module _ (s : List ℕ) {r : Read} (is : r ≡ reading s) where
 
     pub table-of : r .table ≡ decode s
     table-of = ap (λ (x : Read). x .table) is ∙ read-table s was-accepted
-
-    pub table-accepted : isAccepted (checkTable (r .table)) ≡ true
-    table-accepted = rw table-of (decoded-accepted s was-accepted)

@@ -35,7 +35,7 @@ module _ (s : List ℕ) (cores : coresIn s < 256) (tasks : tasksIn s < 256) (lon
   unfolding reading
   refused-so = rw wrong-length
 
-  pub not-read : isAccepted (checkFile s) ≡ false
+  not-read : isAccepted (checkFile s) ≡ false
   unfolding checkFile
   not-read = rw wrong-length
 

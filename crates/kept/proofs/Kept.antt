@@ -27,7 +27,7 @@ module _ (s : List ℕ) where
   unfolding kept
   kept-most = leading-most (isSound s) 1 (tasksIn s)
 
-  pub kept-sound : (k : ℕ) → 1 ≤ k → k ≤ kept s → isSound s k ≡ true
+  kept-sound : (k : ℕ) → 1 ≤ k → k ≤ kept s → isSound s k ≡ true
   unfolding kept
   kept-sound k low high =
       let e : 1 + (k - 1) ≡ k = omega arith in
@@ -62,7 +62,7 @@ module _ (s : List ℕ) where
         (core, time, requests)
 
     -- it stands in the table as it stands in the file
-    pub kept-task : taskOf (salvagedTable s) k ≡ task k
+    kept-task : taskOf (salvagedTable s) k ≡ task k
     unfolding salvagedTable
     kept-task = place-of noTask task 32 (kept s) k low high
 

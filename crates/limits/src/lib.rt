@@ -4,9 +4,9 @@ ghost use Prim.Native.Nat.{_≤_};
 ghost use Rattle.laws.specs.Idioms.{entry};
 ghost use Rattle.rules.specs.Chain.{first};
 ghost use Rattle.rules.specs.Refusals.{countsFault, setFault};
+use basics::outside;
 use basics::refused;
 use rules::Refusal;
-use tasks::outside;
 
 // Is a count outside its limits, or a bit of the fourth byte set that no table has (RULES 2.1)?
 pub fn counts_fault(cores: u8, partitions: u8, tasks: u8, fourth: u8) -> bool

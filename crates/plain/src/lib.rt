@@ -1,13 +1,11 @@
 // Refusals, bounds and starts as plain numbers, as C has them.
 use rules::Refusal;
-use rules::Salvaged;
 use rules::Verdict;
 ghost use mathlib.Core.Path.{_≡_};
-ghost use Prim.Native.Nat.{_≤_};
 ghost use lib.ListN.{take};
 ghost use Rattle.laws.specs.Idioms.{filled};
 ghost use Rattle.rules.specs.Judgement.{boundOf};
-ghost use Rattle.plain.specs.Codes.{codeOf, salvageCode};
+ghost use Rattle.plain.specs.Codes.{codeOf};
 
 // Number and place in one; 0 where nothing is refused.
 pub fn code(refusal: Refusal) -> u16
@@ -17,16 +15,6 @@ pub fn code(refusal: Refusal) -> u16
         return 0;
     }
     (refusal.number as u16) + 256 * (refusal.place as u16)
-}
-
-// The refusal, the three counts and the length of a salvage in one.
-pub fn salvage_code(r: Salvaged) -> u64
-    requires { ⌜ r .length ≤ 990 ⌝ }
-    ensures { λ n. ⌜ n ≡ salvageCode r ⌝ }
-{
-    let refusal = r.refusal;
-    let counts = r.promised as u64 + 256 * (r.kept as u64) + 65536 * (r.stopped as u64);
-    code(refusal) as u64 + 65536 * counts + 1099511627776 * (r.length as u64)
 }
 
 // Its bound, or 0 where it misses.

@@ -6,7 +6,8 @@ ghost use lib.Dec.{eqb};
 ghost use Rattle.rules.specs.Chain.{isAccepted};
 ghost use Rattle.rules.specs.Refusals.{checkBoard};
 ghost use Rattle.rules.specs.File.{decode};
-ghost use Rattle.rules.specs.Salvage.{endsEarly, kept, salvagedTable};
+ghost use Rattle.rules.specs.Salvage.{endsEarly, kept, salvagedTable, salvaging, salvagedOut};
+ghost use Rattle.plain.specs.Codes.{salvageCode};
 ghost use Rattle.writer.specs.Answers.{Wrote};
 ghost use Rattle.salvaging.specs.Front.{checkFront, noSalvage, Salvages};
 use basics::refused;
@@ -89,4 +90,22 @@ pub fn salvage(file: &[u8], out: &mut [u8]) -> Salvaged
         kept: n,
         stopped: stop(promised, n),
     }
+}
+
+// All that salvaging tells, in one number.
+fn code(r: Salvaged) -> u64
+    requires { ⌜ r .length ≤ 990 ⌝ }
+    ensures { λ n. ⌜ n ≡ salvageCode r ⌝ }
+{
+    let refusal = r.refusal;
+    let counts = r.promised as u64 + 256 * (r.kept as u64) + 65536 * (r.stopped as u64);
+    plain::code(refusal) as u64 + 65536 * counts + 1099511627776 * (r.length as u64)
+}
+
+// Salvaging as C has it (RULES 10.3).
+pub fn salvage_told(file: &[u8], out: &mut [u8]) -> u64
+    ensures { λ r. ⌜ r ≡ salvageCode (salvaging (now (file .entry)) (now (out .entry))) ⌝ }
+    ensures { λ _. ⌜ now (out .exit) ≡ salvagedOut (now (file .entry)) (now (out .entry)) ⌝ }
+{
+    code(salvage(file, out))
 }

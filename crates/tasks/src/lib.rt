@@ -1,28 +1,14 @@
 // Checks 9 to 11, of a table's tasks, in one walk over them.
 ghost use mathlib.Core.Path.{_≡_};
-ghost use mathlib.Core.Bool.{not};
-ghost use Rattle.laws.specs.Idioms.{within};
 ghost use Rattle.rules.specs.Tasks.{noTask};
 ghost use Rattle.rules.specs.Refusals.{timeFault, checkTasks};
 ghost use Rattle.tasks.specs.Faults.{earliest, noFaults, withTask, toldBy};
+use basics::outside;
 use basics::refused;
 use rules::Picos;
 use rules::Refusal;
 use rules::Table;
 use rules::Task;
-
-// Is x below the lowest or above the highest?
-pub fn outside(lowest: u64, highest: u64, x: u64) -> bool
-    ensures { λ r. ⌜ r ≡ not (within lowest highest x) ⌝ }
-{
-    if x < lowest {
-        return true;
-    }
-    if highest < x {
-        return true;
-    }
-    false
-}
 
 // Is T, D or C outside its limits (RULES 2.2)?
 fn time_fault(x: Task) -> bool

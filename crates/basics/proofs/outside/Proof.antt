@@ -1,7 +1,7 @@
 -- Outside is not within. Assumes nothing.
 use borrow.Author.Tests.{lt-leb, le-leb}
-use Rattle.tasks.proofs.outside.Statement.{statement}
-use Rattle.tasks.proofs.outside.Tie as tie
+use Rattle.basics.proofs.outside.Statement.{statement}
+use Rattle.basics.proofs.outside.Tie as tie
 
 returns : tie.Need-returns
 returns c = simp (lt-leb _ _ (c .if1 .taken))
