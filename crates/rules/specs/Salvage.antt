@@ -47,7 +47,7 @@ stopped s = cond (eqb (kept s) (promised s)) 0 (kept s + 1)
 unfoldable pub salvagedTable : List ℕ → Table
 salvagedTable s = firstTasks s (marked (formIn s)) (kept s)
 
--- RULES 9.4: what salvaging into `out` meets
+-- RULES 9.5: what salvaging into `out` meets
 unfoldable pub checkSalvage : List ℕ → List ℕ → Refusal
 checkSalvage s out =
     given 19 0 (isAccepted (checkFile s))
