@@ -12,6 +12,27 @@ use rules::Read;
 use rules::Refusal;
 use rules::Table;
 
+// What a refused reading gives (RULES 9.2).
+pub fn read_nothing(refusal: Refusal) -> Read
+    ensures { λ r. ⌜ r ≡ readNothing refusal ⌝ }
+{
+    let none = tasks::no_task();
+    let task = [none; 32];
+    let table = Table {
+        cores: 0,
+        partitions: 0,
+        tasks: 0,
+        fourth: 0,
+        timing: [0; 15],
+        sets: [0; 8],
+        task: task,
+    };
+    Read {
+        refusal: refusal,
+        table: table,
+    }
+}
+
 // ---- the second part: of a file that came whole. Nothing outside this crate can call these
 
 // 9 to 11.
@@ -41,27 +62,6 @@ fn figures_refusal(file: &[u8]) -> Refusal
         return board;
     }
     records_in(file)
-}
-
-// What a refused reading gives (RULES 9.2).
-pub fn read_nothing(refusal: Refusal) -> Read
-    ensures { λ r. ⌜ r ≡ readNothing refusal ⌝ }
-{
-    let none = tasks::no_task();
-    let task = [none; 32];
-    let table = Table {
-        cores: 0,
-        partitions: 0,
-        tasks: 0,
-        fourth: 0,
-        timing: [0; 15],
-        sets: [0; 8],
-        task: task,
-    };
-    Read {
-        refusal: refusal,
-        table: table,
-    }
 }
 
 // The figures taken out: 5 to 11 and 16, then the table.
