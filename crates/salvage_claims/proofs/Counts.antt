@@ -11,7 +11,7 @@ use Rattle.laws.proofs.Tests.{clash}
 use Rattle.rules.specs.File.{recordTask, recordIn, coresIn, tasksIn}
 use Rattle.rules.specs.Salvage.{reaches, taskFault, isSound, kept, stopped, salvaging}
 use Rattle.kept.proofs.Kept.{kept-most, kept-stop, kept-whole, kept-faultless}
-use Rattle.salvage_claims.specs.NewFile.{Salvages, Lacks, Counts}
+use Rattle.salvage_claims.specs.NewFile.{Succeeds, Lacks, Counts}
 use Rattle.salvage_claims.proofs.Passed.{passed}
 
 module _ (s : List ℕ) where
@@ -52,7 +52,7 @@ module _ (s : List ℕ) where
   stopped-lacks =
       stopped-either (λ n. n ≢ 0 → Lacks s n) (λ e some. absurd (some refl)) (λ less some. unsound-lacks (kept s + 1) (kept-stop s less))
 
-pub counts : (s out : List ℕ) → Salvages s out → Counts s out
+pub counts : (s out : List ℕ) → Succeeds s out → Counts s out
 unfolding salvaging
 counts s out done = record {
   promised = rw done;

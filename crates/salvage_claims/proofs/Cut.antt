@@ -17,7 +17,7 @@ use Rattle.facts.proofs.Reading.{refusal-read, decoded-accepted}
 use Rattle.kept.proofs.Leading.{leading-is}
 use Rattle.kept.proofs.Sound.{cut-off, by-fault}
 use Rattle.file_claims.proofs.Files.{point-one}
-use Rattle.salvage_claims.specs.NewFile.{Salvages}
+use Rattle.salvage_claims.specs.NewFile.{Succeeds}
 use Rattle.salvage_claims.specs.Cut.{CutFile, fitting, TakenBack, Cut}
 use Rattle.salvage_claims.proofs.Passed.{passes}
 use Rattle.salvage_claims.proofs.SalvagedTable.{table-small}
@@ -76,7 +76,7 @@ module _ (s : List ℕ) (n : ℕ) (c : CutFile s n) where
   board-passed = rw (board-cut s n within reaches) (both-accepted (checkBoard (decode s)) (checkTasks (decode s)) table-accepted .0)
 
   module _ (out : List ℕ) (long : 990 ≤ length out) where
-    done : Salvages (take n s) out
+    done : Succeeds (take n s) out
     done = passes (take n s) out (record {
       refused-file = refused-cut;
       late = late-cut;

@@ -10,11 +10,11 @@ use Rattle.rules.specs.File.{encode, formIn, firstTasks}
 use Rattle.rules.specs.Operations.{reading}
 use Rattle.rules.specs.Salvage.{kept, salvagedTable, salvaging, salvagedOut}
 use Rattle.kept.proofs.Marked.{marked-says, marked-bus}
-use Rattle.salvage_claims.specs.NewFile.{Salvages, newFile, NewFile}
+use Rattle.salvage_claims.specs.NewFile.{Succeeds, newFile, NewFile}
 use Rattle.salvage_claims.proofs.Passed.{passed}
 use Rattle.salvage_claims.proofs.SalvagedTable.{table-read, same-bytes, same-record}
 
-module _ (s out : List ℕ) (done : Salvages s out) where
+module _ (s out : List ℕ) (done : Succeeds s out) where
   file-is : newFile s out ≡ encode (salvagedTable s)
   unfolding salvaging salvagedOut
   file-is = rw done (take-append-seam (encode (salvagedTable s)) _)

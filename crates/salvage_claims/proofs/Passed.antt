@@ -13,7 +13,7 @@ use Rattle.rules.specs.File.{encode, decode}
 use Rattle.rules.specs.Operations.{checkFile}
 use Rattle.rules.specs.Salvage.{endsEarly, kept, salvagedTable, checkSalvage, salvaging}
 use Rattle.facts.proofs.Chain.{both-accepted, no-fault}
-use Rattle.salvage_claims.specs.NewFile.{Salvages}
+use Rattle.salvage_claims.specs.NewFile.{Succeeds}
 
 pub record Passed (s out : List ℕ) : Type 0 where
   pub refused-file : isAccepted (checkFile s) ≡ false
@@ -23,7 +23,7 @@ pub record Passed (s out : List ℕ) : Type 0 where
   pub room : length (encode (salvagedTable s)) ≤ length out
 
 module _ (s out : List ℕ) where
-  pub passed : Salvages s out → Passed s out
+  pub passed : Succeeds s out → Passed s out
   unfolding salvaging checkSalvage
   passed done =
       let whole-link = given 19 0 (isAccepted (checkFile s)) in
@@ -42,7 +42,7 @@ module _ (s out : List ℕ) where
         room = ltb-false _ _ (no-fault 14 0 short room);
       }
 
-  pub passes : Passed s out → Salvages s out
+  pub passes : Passed s out → Succeeds s out
   unfolding salvaging checkSalvage
   passes p =
       let some : eqb (kept s) 0 ≡ false = ne-eqb (kept s) 0 (λ none. omega (arith, p .some)) in

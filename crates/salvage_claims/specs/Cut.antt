@@ -6,7 +6,7 @@ use lib.ListN.{length, take}
 use Rattle.rules.specs.File.{recordsAt, recordSize, recordAt, recordIn, coresIn, tasksIn, formIn}
 use Rattle.rules.specs.Salvage.{salvaging}
 use Rattle.file_claims.specs.Files.{AcceptedFile}
-use Rattle.salvage_claims.specs.NewFile.{Salvages}
+use Rattle.salvage_claims.specs.NewFile.{Succeeds}
 
 -- the first n bytes of an accepted file: not all of it, but its sets and its first record
 pub record CutFile (s : List ℕ) (n : ℕ) : Type 0 where
@@ -19,7 +19,7 @@ abbrev pub fitting : List ℕ → ℕ → ℕ
 fitting s n = min (tasksIn s) ((n - recordsAt (formIn s) (coresIn s)) / recordSize (formIn s))
 
 pub record TakenBack (s out : List ℕ) (n : ℕ) : Type 0 where
-  pub done : Salvages (take n s) out
+  pub done : Succeeds (take n s) out
   pub promised : salvaging (take n s) out .promised ≡ tasksIn s
   pub kept : salvaging (take n s) out .kept ≡ fitting s n
   -- and they are those of the file before it was cut

@@ -15,8 +15,8 @@ use Rattle.rules.specs.Operations.{reading}
 use Rattle.rules.specs.Salvage.{taskFault, salvaging, salvagedOut}
 
 -- salvaging is not refused
-abbrev pub Salvages : List ℕ → List ℕ → Type 0
-Salvages s out = isAccepted (salvaging s out .refusal) ≡ true
+abbrev pub Succeeds : List ℕ → List ℕ → Type 0
+Succeeds s out = isAccepted (salvaging s out .refusal) ≡ true
 
 -- the new file, in the front of the buffer
 abbrev pub newFile : List ℕ → List ℕ → List ℕ
@@ -65,6 +65,6 @@ pub record Nothing (s out : List ℕ) : Type 0 where
   pub lent-bytes : salvagedOut s out ≡ out
 
 pub record Salvaging : Type 0 where
-  pub new-file : (s out : List ℕ) → Salvages s out → NewFile s out
-  pub counts : (s out : List ℕ) → Salvages s out → Counts s out
+  pub new-file : (s out : List ℕ) → Succeeds s out → NewFile s out
+  pub counts : (s out : List ℕ) → Succeeds s out → Counts s out
   pub refused : (s out : List ℕ) → isAccepted (salvaging s out .refusal) ≡ false → Nothing s out

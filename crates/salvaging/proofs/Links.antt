@@ -1,12 +1,12 @@
 -- The refusals of salvaging, in their order, and what is given where there is none. Assumes nothing.
 use mathlib.Core.Path.{_≡_, refl, sym, ap, _∙_}
-use mathlib.Core.Bool.{Bool, true, false, cond}
+use mathlib.Core.Bool.{true, false}
 use mathlib.Core.List.{List}
-use Prim.Native.Nat.{ℕ, zero, suc, _+_, _≤_, _<_}
+use Prim.Native.Nat.{ℕ, _≤_, _<_}
 use native.Mathlib.Omega.{arith}
 use lib.Dec.{ltb}
 use lib.ListN.{length}
-use borrow.Author.Tests.{lt-ltb, le-ltb, ltb-true, ltb-false, eq-eqb, ne-eqb}
+use borrow.Author.Tests.{lt-ltb, le-ltb, ltb-false, eq-eqb, ne-eqb}
 use Rattle.rules.specs.declared.Refusal.{Refusal}
 use Rattle.rules.specs.declared.Salvaged.{Salvaged}
 use Rattle.rules.specs.declared.Written.{Written}
@@ -17,7 +17,7 @@ use Rattle.rules.specs.Operations.{checkFile, checkWrite, writing, outAfter}
 use Rattle.rules.specs.Salvage.{endsEarly, kept, stopped, salvagedTable, checkSalvage, salvaging, salvagedOut}
 use Rattle.places.proofs.Places.{records-limit}
 use Rattle.facts.proofs.Accepted.{counts}
-use Rattle.facts.proofs.Chain.{both-accepted, no-fault, first-refuses, second-decides}
+use Rattle.facts.proofs.Chain.{both-accepted, no-fault}
 use Rattle.writer.specs.Answers.{Wrote}
 use Rattle.kept.proofs.Kept.{kept-most, salvaged-accepted}
 use Rattle.salvaging.specs.Front.{checkFront, noSalvage, Salvages}
@@ -29,11 +29,11 @@ module _ (s : List ℕ) where
   unfolding checkFront
   front-accepted e = simp e
 
-  -- a file of less than four bytes ends before its sets do
   pub early : length s < recordsAt (formIn s) (coresIn s) → endsEarly s ≡ true
   unfolding endsEarly
   early h = lt-ltb (length s) (recordsAt (formIn s) (coresIn s)) h
 
+  -- a file of less than four bytes ends before its sets do
   pub few-bytes : length s < 4 → endsEarly s ≡ true
   few-bytes h = early (omega (arith, records-limit (formIn s) (coresIn s)))
 
