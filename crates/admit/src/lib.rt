@@ -36,7 +36,7 @@ pub fn start(t: Table, k: u8, start: Picos) -> Refusal
     }
     let i = (k as usize) - 1;
     let task = t.task[i];
-    if climb::latest(task) < start.0 {
+    if basics::latest(task) < start.0 {
         return refused(13, k);
     }
     refused(0, 0)

@@ -1,11 +1,13 @@
-// Small steps that many crates take: a refusal made, the kind of a table asked for and its mark, a number held to its limits, the larger of two numbers.
+// Small steps that many crates take: a refusal made, the kind of a table asked for and its mark, a task's latest response, a number held to its limits, the larger of two numbers.
 ghost use mathlib.Core.Path.{_≡_};
 ghost use mathlib.Core.Bool.{not};
 ghost use Prim.Native.Nat.{max, _<_};
 ghost use Rattle.laws.specs.Idioms.{within};
 ghost use Rattle.rules.specs.Chain.{refused};
 ghost use Rattle.rules.specs.Kinds.{saysBus, saysSalvaged, marked};
+ghost use Rattle.rules.specs.Tasks as Tasks;
 use rules::Refusal;
+use rules::Task;
 
 // RULES 9.1; 0, 0 where nothing is refused.
 pub fn refused(number: u8, place: u8) -> Refusal
@@ -37,6 +39,13 @@ pub fn mark_salvaged(fourth: u8) -> u8
         return fourth;
     }
     fourth + 2
+}
+
+// The latest allowed response of a task: the one place that takes it from the figures.
+pub fn latest(task: Task) -> u64
+    ensures { λ r. ⌜ r ≡ Tasks.latest task ⌝ }
+{
+    task.deadline.0
 }
 
 // Is x below the lowest or above the highest?

@@ -1,7 +1,7 @@
-// Lent bytes: the first of them; little-endian numbers of 2, 4 and 8 bytes in them, and the bytes of such numbers stored.
+// Lent bytes: the first of them, and one of them altered; little-endian numbers of 2, 4 and 8 bytes in them, and the bytes of such numbers stored.
 ghost use mathlib.Core.Path.{_≡_};
 ghost use Prim.Native.Nat.{_+_, _≤_};
-ghost use lib.ListN.{length, take};
+ghost use lib.ListN.{length, take, set};
 ghost use lib.Seq.{sets};
 ghost use Rattle.laws.specs.Idioms.{numberIn, bytesOf, part};
 
@@ -10,6 +10,16 @@ pub fn front(s: &[u8], n: usize) -> &[u8]
     ensures { λ r. ⌜ now r ≡ take n (now (s .entry)) ⌝ }
 {
     if n <= s.len() { &s[..n] } else { s }
+}
+
+// Byte i becomes b, where there is one.
+pub fn alter(s: &mut [u8], i: usize, b: u8)
+    ensures { λ _. ⌜ now (s .exit) ≡ set (now (s .entry)) i b ⌝ }
+{
+    if s.len() <= i {
+        return;
+    }
+    s[i] = b;
 }
 
 // The numbers that two, four and eight bytes give.

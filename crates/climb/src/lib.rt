@@ -1,21 +1,12 @@
 // The rounds of F, of plain terms.
 ghost use mathlib.Core.Path.{_≡_};
-ghost use Rattle.rules.specs.Tasks as Tasks;
 ghost use Rattle.releases.specs.Releases.{Small};
 ghost use Rattle.terms.specs.Terms.{termsOf};
 ghost use Rattle.climb.specs.Run.{Ready, lowestOf, climbed, endedAs};
 use rules::Answer;
 use rules::Picos;
-use rules::Task;
 use rules::Verdict;
 use terms::Own;
-
-// The latest allowed response.
-pub fn latest(task: Task) -> u64
-    ensures { λ r. ⌜ r ≡ Tasks.latest task ⌝ }
-{
-    task.deadline.0
-}
 
 // The lowest start.
 fn lowest(own: Own) -> u64

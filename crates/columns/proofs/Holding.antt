@@ -19,14 +19,15 @@ use Rattle.rules.specs.Tasks.{C, H, latest, noTask, coreOf, isOn, tasksOn, high
 use Rattle.facts.specs.Sound.{Sound, SoundTask}
 use Rattle.facts.proofs.SoundTasks.{tasks-there}
 use Rattle.prices.specs.Costs.{costsOf, noCosts, allCosts}
-use Rattle.groups.specs.Grouped.{placesOn}
+use Rattle.standing.specs.OnCore.{placesOn}
 use Rattle.groups.specs.Columns.{InOrder}
-use Rattle.groups.proofs.PlacesOn.{places-none, places-next, places-few, places-first, own-within, own-place}
+use Rattle.standing.proofs.PlacesOn.{places-none, places-next, places-few, places-first, own-within, own-place}
 use Rattle.floors.specs.Floors.{twiceOn, othersWith}
 use Rattle.terms.specs.Terms.{termsOf}
 use Rattle.climb.specs.Run.{Ready, climbed}
-use Rattle.rounds.specs.declared.Priced.{Priced}
-use Rattle.rounds.specs.Lent.{Lent, ownWith, placeAt, termsAt, Judgeable}
+use Rattle.prices.specs.declared.Priced.{Priced}
+use Rattle.own.specs.Own.{ownWith}
+use Rattle.rounds.specs.Lent.{Lent, placeAt, termsAt, Judgeable}
 use Rattle.columns.specs.Numbered.{climbedFor}
 use Rattle.columns.specs.Held.{Held}
 use Rattle.columns.proofs.FromPlace.{From}

@@ -34,7 +34,7 @@ use Rattle.floors.specs.Floors.{weighed, Lots, twiceOn, othersWith}
 use Rattle.job.specs.Job.{arrivedOn, jobBy, Group}
 use Rattle.terms.specs.Terms.{Terms, termsOf, aboveOf, requestOf, jobOf, timeOf, byOf, Fair}
 use Rattle.climb.specs.Run.{lowestOf, Ready, answerOf, isHigh, climbed}
-use Rattle.rounds.specs.Lent.{ownWith}
+use Rattle.own.specs.Own.{ownWith}
 use Rattle.columns.specs.Numbered.{climbedFor}
 use Rattle.columns.proofs.FromPlace.{From, asked-is, slots-are}
 

@@ -6,7 +6,7 @@ use Rattle.rules.specs.declared.Table.{Table}
 use Rattle.groups.specs.Grouped.{Ordered}
 use Rattle.groups.specs.Columns.{PerTask, Columns}
 use Rattle.rounds.specs.Lent.{Lent}
-use Rattle.columns.specs.Numbered.{pricedOf}
+use Rattle.prices.specs.Costs.{pricedOf}
 
 pub record Held (t : Table) (l : Lent) : Type 0 where
   pub board-is : l .board ≡ pricedOf t

@@ -1,4 +1,4 @@
-// The figures of an accepted table's tasks in lent columns, and the judgement of one task and of all.
+// The judgement of one task of an accepted table, and of all: its figures go into lent columns.
 ghost use mathlib.Core.Path.{_≡_};
 ghost use mathlib.Core.Bool.{true};
 ghost use Prim.Native.Nat.{_≤_};
@@ -10,54 +10,14 @@ ghost use Rattle.rules.specs.Tasks.{taskOf};
 ghost use Rattle.rules.specs.Chain.{isAccepted};
 ghost use Rattle.rules.specs.Refusals.{checkJudged};
 ghost use Rattle.rules.specs.Operations.{judgeAll};
-ghost use Rattle.groups.specs.Grouped.{PlacesBelow};
-ghost use Rattle.groups.specs.Columns.{PerTask, Columns};
+ghost use Rattle.prices.specs.Costs.{pricedOf};
 ghost use Rattle.rounds.specs.Lent.{lentOf};
-ghost use Rattle.columns.specs.Numbered.{climbedFor, pricedOf};
+ghost use Rattle.columns.specs.Numbered.{climbedFor};
 ghost use Rattle.columns.specs.Held.{Held};
 use climb::Climbed;
-use rounds::Priced;
+use prices::Priced;
 use rules::AllJudged;
 use rules::Table;
-
-// Of each task its core and its latest allowed response.
-fn per_task(table: Table, core: &mut [u8; 32], latest: &mut [u64; 32])
-    requires { ⌜ Sound table × (length (now core) ≡ 32) × (length (now latest) ≡ 32) ⌝ }
-    ensures { λ _. ⌜ PerTask (table .task) (table .tasks) (now (core .exit)) (now (latest .exit)) ⌝ }
-{
-    let n = table.tasks as usize;
-    let mut i: usize = 0;
-    while i < n {
-        let task = table.task[i];
-        core[i] = task.core;
-        latest[i] = climb::latest(task);
-        i += 1;
-    }
-}
-
-// T, C and H of the tasks, in an order of their places.
-fn columns(
-    table: Table,
-    order: &[usize; 33],
-    spans: &mut [u64; 33],
-    costs: &mut [u64; 33],
-    asks: &mut [u64; 33],
-)
-    requires { ⌜ Sound table × PlacesBelow (table .tasks) (now order) ⌝ }
-    requires { ⌜ (length (now spans) ≡ 33) × (length (now costs) ≡ 33) × (length (now asks) ≡ 33) ⌝ }
-    ensures { λ _. ⌜ Columns (table .task) (table .tasks) (now (order .entry)) (now (spans .exit)) (now (costs .exit)) (now (asks .exit)) ⌝ }
-{
-    let n = table.tasks as usize;
-    let mut k: usize = 0;
-    while k < n {
-        let at = order[k];
-        let task = table.task[at];
-        spans[k] = task.period.0;
-        costs[k] = task.exec.0;
-        asks[k] = task.requests as u64;
-        k += 1;
-    }
-}
 
 // What an accepted table's cores cost each other.
 fn priced(table: Table) -> Priced
@@ -89,11 +49,11 @@ fn laid(
     requires { ⌜ (length (now spans) ≡ 33) × (length (now costs) ≡ 33) × (length (now asks) ≡ 33) ⌝ }
     ensures { λ r. ⌜ Held t (lentOf r (now (core .exit)) (now (latest .exit)) (now (from .exit)) (now (spans .exit)) (now (costs .exit)) (now (asks .exit))) ⌝ }
 {
-    per_task(t, core, latest);
+    table_columns::per_task(t, core, latest);
     let board = priced(t);
     let mut order = [0usize; 33];
     *from = groups::grouped(board.tasks, board.cores, core, &mut order);
-    columns(t, &order, spans, costs, asks);
+    table_columns::columns(t, &order, spans, costs, asks);
     board
 }
 

@@ -1,3 +1,3 @@
 -- What the proofs of the functions stand on.
---     Stores   records and body as runs of stores
+--     Stores   a body as a run of stores
 pub mod Stores

@@ -5,11 +5,9 @@ ghost use mathlib.Core.List.{map};
 ghost use lib.ListN.{length, take};
 ghost use lib.Seq.{sets};
 ghost use Rattle.laws.specs.Idioms.{joined, bytesOf};
-ghost use Rattle.rules.specs.Tasks.{tasksOf};
-ghost use Rattle.rules.specs.File.{recordsAt, recordAt, recordBytes, body};
+ghost use Rattle.rules.specs.File.{recordAt, body};
 ghost use Rattle.encode.specs.Counts.{counts};
 use rules::Table;
-use rules::Task;
 
 // The first n figures, two bytes each.
 fn put_figures(out: &mut [u8], at: usize, figures: &[u16], n: usize)
@@ -22,38 +20,6 @@ fn put_figures(out: &mut [u8], at: usize, figures: &[u16], n: usize)
     while i < n {
         bytes::put(out, at + 2 * i, figures[i] as u64, 2);
         i += 1;
-    }
-}
-
-// The record of a task (RULES 7.1).
-fn put_task(out: &mut [u8], at: usize, form: u8, task: Task)
-    requires { ⌜ at + 29 ≤ length (now out) ⌝ }
-    ensures { λ _. ⌜ now (out .exit) ≡ sets (now (out .entry)) at (recordBytes form task) ⌝ }
-{
-    bytes::put(out, at, task.core as u64, 1);
-    bytes::put(out, at + 1, task.exec.0, 8);
-    bytes::put(out, at + 9, task.period.0, 8);
-    bytes::put(out, at + 17, task.deadline.0, 8);
-    bytes::put(out, at + 25, task.requests as u64, 4);
-}
-
-// The records of the tasks, and of no place beyond them (RULES 2.7).
-fn put_tasks(out: &mut [u8], t: Table)
-    requires { ⌜ t .tasks ≤ 32 ⌝ }
-    requires { ⌜ recordAt (t .fourth) (t .cores) (t .tasks + 1) ≤ length (now out) ⌝ }
-    ensures { λ _. ⌜ now (out .exit) ≡ sets (now (out .entry)) (recordsAt (t .fourth) (t .cores)) (joined (map (recordBytes (t .fourth)) (tasksOf t))) ⌝ }
-{
-    let count = places::size(t.tasks);
-    let mut done: usize = 0;
-    while done < count {
-        let task = t.task[done];
-        put_task(
-            out,
-            places::record_at(t.fourth, t.cores, done),
-            t.fourth,
-            task,
-        );
-        done += 1;
     }
 }
 
@@ -85,5 +51,5 @@ pub fn put_body(out: &mut [u8], t: Table)
         &figures[..],
         places::size(t.cores),
     );
-    put_tasks(out, t);
+    records::put_tasks(out, t);
 }

@@ -8,6 +8,7 @@ use Rattle.rules.specs.Chain.{isAccepted, _orElse_}
 use Rattle.rules.specs.Refusals.{checkBoard, checkTasks, checkTable}
 use Rattle.rules.specs.File.{coresIn, tasksIn, checkWhole, decode}
 use Rattle.rules.specs.Operations.{readNothing, taking, reading, checkFile}
+use Rattle.facts.specs.Sound.{Sound}
 use Rattle.facts.proofs.Accepted.{sound}
 use Rattle.facts.proofs.Reading.{file-whole, decoded-accepted}
 use Rattle.fields.specs.Places.{Sized}
@@ -59,3 +60,6 @@ module _ (s : List ℕ) where
 
     pub file-counts : (coresIn s ≤ 8) × (tasksIn s ≤ 32)
     file-counts = taken-counts (decoded-accepted s e)
+
+    pub file-sound : Sound (decode s)
+    file-sound = sound (decode s) (decoded-accepted s e)

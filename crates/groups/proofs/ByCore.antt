@@ -9,8 +9,8 @@ use native.Mathlib.Omega.{arith}
 use lib.Dec.{eqb}
 use lib.ListN.{length, length-append, getD}
 use borrow.Author.Tests.{eq-eqb, ne-eqb}
-use Rattle.groups.specs.Grouped.{placesOn}
-use Rattle.groups.proofs.PlacesOn.{places-none, count-next}
+use Rattle.standing.specs.OnCore.{placesOn}
+use Rattle.standing.proofs.PlacesOn.{places-none, count-next}
 
 module _ (core : List ℕ) where
   -- those of cores 1 to q

@@ -6,7 +6,8 @@ use native.Mathlib.Decide.{ℕ-discrete}
 use native.Mathlib.Omega.{arith}
 use lib.ListN.{length, length-append, length-set, replicate, take, getD, set, List·getD-append}
 use lib.Seq.{getD-set-same, getD-set-other, getD-take, getD-append-add}
-use Rattle.groups.specs.Grouped.{placesOn, PlacesBelow, Joined, OrderedAt, Ordered}
+use Rattle.standing.specs.OnCore.{placesOn}
+use Rattle.groups.specs.Grouped.{PlacesBelow, Joined, OrderedAt, Ordered}
 use Rattle.groups.proofs.ByCore.{byCore, by-core-none, by-core-next, by-core-long, by-core-split, by-core-few}
 
 -- the cores up to q have had their turn

@@ -1,20 +1,9 @@
 -- The first n tasks by their cores: the places of those on core 1, then of those on core 2, and so on. Places are counted from 0. Assumes nothing.
 use Prim.Native.Nat.{ℕ, _+_, _≤_, _<_}
 use mathlib.Core.Path.{_≡_}
-use mathlib.Core.Bool.{Bool, cond}
 use mathlib.Core.List.{List, _++_}
-use lib.Dec.{eqb}
 use lib.ListN.{length, take, getD}
-use Rattle.laws.specs.Idioms.{those, below}
-
--- 1 where a test passes, else 0
-pub record OneIf (passes : Bool) (r : ℕ) : Type 0 where
-  pub is : r ≡ cond passes 1 0
-  pub high : r ≤ 1
-
--- of the first n tasks, each with its core, the places of those on core q
-unfoldable pub placesOn : List ℕ → ℕ → ℕ → List ℕ
-placesOn core q n = those (λ i. eqb (getD core i 0) q) (below n)
+use Rattle.standing.specs.OnCore.{placesOn}
 
 -- an array of places of n tasks
 pub record PlacesBelow (n : ℕ) (order : List ℕ) : Type 0 where

@@ -1,15 +1,8 @@
 // The tasks core after core: in which order they stand, and where each core's begin.
-ghost use mathlib.Core.Path.{_≡_};
-ghost use lib.Dec.{eqb};
-ghost use lib.ListN.{length, getD};
-ghost use Prim.Native.Nat.{_+_, _≤_, _<_};
-ghost use Rattle.groups.specs.Grouped.{OneIf, PlacesBelow, Joined, Ordered, placesOn};
-
-fn same(a: u8, b: u8) -> usize
-    ensures { λ r. ⌜ OneIf (eqb a b) r ⌝ }
-{
-    if a == b { 1 } else { 0 }
-}
+ghost use lib.ListN.{length};
+ghost use Prim.Native.Nat.{_+_, _≤_};
+ghost use Rattle.standing.specs.OnCore.{placesOn};
+ghost use Rattle.groups.specs.Grouped.{PlacesBelow, Joined, Ordered};
 
 // The places of the tasks on core q, after the m that are taken. Each is written at the next place, which counts only where the core is q.
 fn group(n: usize, q: u8, m: usize, core: &[u8; 32], order: &mut [usize; 33]) -> usize
@@ -21,7 +14,7 @@ fn group(n: usize, q: u8, m: usize, core: &[u8; 32], order: &mut [usize; 33]) ->
     let mut i: usize = 0;
     while i < n {
         order[at] = i;
-        at += same(core[i], q);
+        at += standing::same(core[i], q);
         i += 1;
     }
     at
@@ -42,19 +35,4 @@ pub fn grouped(n: usize, cores: usize, core: &[u8; 32], order: &mut [usize; 33])
         q += 1;
     }
     from
-}
-
-// Where the task in place k stands, when the first of its core stands at `first`: after its higher tasks.
-pub fn place(k: usize, first: usize, core: &[u8; 32]) -> usize
-    requires { ⌜ (k < 32) × (first ≤ 32) ⌝ }
-    ensures { λ r. ⌜ r ≡ first + length (placesOn (now (core .entry)) (getD (now (core .entry)) k 0) k) ⌝ }
-{
-    let own = core[k];
-    let mut at = first;
-    let mut i: usize = 0;
-    while i < k {
-        at += same(core[i], own);
-        i += 1;
-    }
-    at
 }

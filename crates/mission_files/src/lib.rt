@@ -10,6 +10,7 @@ ghost use Rattle.rules.specs.File.{checkWhole};
 ghost use Rattle.rules.specs.Operations.{checkFile, reading, writing, outAfter};
 ghost use Rattle.file_claims.specs.Files.{AcceptedFile, AcceptedTable, cleared};
 ghost use Rattle.mission_files.specs.Written.{writtenTo, WrittenBack};
+use bytes::alter;
 use bytes::front;
 use rules::Read;
 use rules::Refusal;
@@ -21,16 +22,6 @@ pub fn cut_short(file: &[u8], n: usize) -> Refusal
     ensures { λ r. ⌜ (AcceptedFile (now (file .entry)) → n < length (now (file .entry)) → isAccepted r ≡ false) ⌝ }
 {
     file::check(front(file, n))
-}
-
-// Byte i becomes b, where there is one.
-fn alter(file: &mut [u8], i: usize, b: u8)
-    ensures { λ _. ⌜ now (file .exit) ≡ set (now (file .entry)) i b ⌝ }
-{
-    if file.len() <= i {
-        return;
-    }
-    file[i] = b;
 }
 
 // Point 1, a file with one byte altered: byte i becomes b.

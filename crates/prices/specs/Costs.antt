@@ -7,6 +7,7 @@ use Rattle.laws.specs.Idioms.{upTo, filled}
 use Rattle.rules.specs.Units.{ps}
 use Rattle.facts.specs.Prices.{Prices, pricesOf}
 use Rattle.prices.specs.declared.CoreCosts.{CoreCosts}
+use Rattle.prices.specs.declared.Priced.{Priced}
 
 -- of one of n cores
 abbrev pub costsAt : ℕ → Prices → CoreCosts
@@ -28,3 +29,7 @@ costsOf t p = costsAt (t .cores) (pricesOf t p)
 
 unfoldable pub allCosts : Table → List CoreCosts
 allCosts t = eachCosts (t .cores) (pricesOf t)
+
+-- how many tasks and cores there are, and what the cores cost each other
+abbrev pub pricedOf : Table → Priced
+pricedOf t = record { tasks = t .tasks; cores = t .cores; costs = allCosts t }

@@ -1,4 +1,4 @@
-// What a core pays, whatever the kind of its board.
+// What the cores of a board pay, whatever its kind.
 ghost use mathlib.Core.Path.{_≡_};
 ghost use Rattle.prices.specs.Costs.{noCosts};
 use rules::Picos;
@@ -7,6 +7,13 @@ use rules::Picos;
 pub struct CoreCosts {
     pub request: Picos,
     pub weight: [Picos; 8],
+}
+
+// How many tasks and cores there are, and what the cores cost each other.
+pub struct Priced {
+    pub tasks: usize,
+    pub cores: usize,
+    pub costs: [CoreCosts; 8],
 }
 
 pub fn no_costs() -> CoreCosts

@@ -8,8 +8,8 @@ use lib.ListN.{length, length-set, getD, set}
 use lib.Seq.{getD-set-same, getD-set-other}
 use borrow.Author.Tests.{eq-eqb, ne-eqb}
 use Rattle.laws.specs.Idioms.{Within}
-use Rattle.groups.specs.Grouped.{placesOn}
-use Rattle.groups.proofs.PlacesOn.{places-none, count-next}
+use Rattle.standing.specs.OnCore.{placesOn}
+use Rattle.standing.proofs.PlacesOn.{places-none, count-next}
 
 pub record Nexts (core begins next : List ℕ) (i : ℕ) : Type 0 where
   pub each : (q : ℕ) → q < 8 → getD next q 0 ≡ getD begins q 0 + length (placesOn core (q + 1) i)

@@ -7,21 +7,20 @@ use lib.ListN.{length, getD}
 use Rattle.laws.specs.Idioms.{Within, entry, upTo, filled}
 use Rattle.rules.specs.declared.Refusal.{Refusal}
 use Rattle.rules.specs.declared.AllJudged.{AllJudged}
-use Rattle.rules.specs.declared.Picos.{Picos}
 use Rattle.rules.specs.Judgement.{misses}
 use Rattle.rules.specs.Chain.{isAccepted, first, _orElse_}
 use Rattle.rules.specs.Operations.{noAnswers}
 use Rattle.prices.specs.declared.CoreCosts.{CoreCosts}
 use Rattle.prices.specs.Costs.{noCosts}
-use Rattle.groups.specs.Grouped.{placesOn}
-use Rattle.floors.specs.declared.Others.{Others}
-use Rattle.floors.specs.Floors.{Lots, twiceOn, othersWith}
+use Rattle.standing.specs.OnCore.{placesOn}
+use Rattle.floors.specs.Floors.{Lots}
 use Rattle.terms.specs.declared.Own.{Own}
 use Rattle.climb.specs.declared.Climbed.{Climbed}
 use Rattle.terms.specs.Terms.{Terms, termsOf}
 use Rattle.climb.specs.Run.{Ready, climbed}
+use Rattle.own.specs.Own.{ownOf}
 use Rattle.unjudged.specs.Unjudged.{firstAfter}
-use Rattle.rounds.specs.declared.Priced.{Priced}
+use Rattle.prices.specs.declared.Priced.{Priced}
 
 -- by the tasks' numbers: the core and the latest allowed response; core after core: T, C and H, and where each core's tasks begin
 pub record Lent : Type 0 where
@@ -37,10 +36,6 @@ abbrev pub lentOf : Priced → List ℕ → List ℕ → List ℕ → List ℕ �
 lentOf board core latest begins periods execs asks =
     record { board = board; core = core; latest = latest; begins = begins; periods = periods; execs = execs; asks = asks }
 
-abbrev pub ownWith : ℕ → ℕ → ℕ → Picos → Others → ℕ → ℕ → Own
-ownWith exec requests latest delay others first place =
-    record { exec = exec; requests = requests; latest = latest; delay = delay; others = others; first = first; place = place }
-
 -- where the task in place i stands: after those before it on its core
 unfoldable pub placeAt : Lent → ℕ → ℕ
 placeAt l i = getD (l .begins) (getD (l .core) i 0 - 1) 0 + length (placesOn (l .core) (getD (l .core) i 0) i)
@@ -50,9 +45,7 @@ abbrev pub costAt : Lent → ℕ → CoreCosts
 costAt l i = entry noCosts (l .board .costs) (getD (l .core) i 0)
 
 abbrev pub ownAt : Lent → ℕ → Own
-ownAt l i =
-    ownWith (getD (l .execs) (placeAt l i) 0) (getD (l .asks) (placeAt l i) 0) (getD (l .latest) i 0) (costAt l i .request)
-    (othersWith (l .board .cores) (costAt l i .weight) (twiceOn (l .begins) (l .asks))) (getD (l .begins) (getD (l .core) i 0 - 1) 0) (placeAt l i)
+ownAt l i = ownOf (l .board .cores) (costAt l i) (l .latest) (l .begins) (l .execs) (l .asks) (getD (l .core) i 0 - 1) i (placeAt l i)
 
 abbrev pub termsAt : Lent → ℕ → Terms
 termsAt l i = termsOf (ownAt l i) (l .begins) (l .periods) (l .execs) (l .asks)

@@ -5,7 +5,7 @@ ghost use lib.ListN.{getD};
 ghost use Rattle.climb.specs.Run.{climbed};
 ghost use Rattle.rounds.specs.Lent.{Lent, lentOf, termsAt, Judgeable};
 use climb::Climbed;
-use rounds::Priced;
+use prices::Priced;
 
 // The task in place i, from a start that is not late.
 pub fn judge_at(
@@ -28,12 +28,20 @@ pub fn judge_at(
     let mut invs = [0u64; 33];
     releases::inverses(board.tasks, spans, &mut invs);
     let p = (core[i] as usize) - 1;
-    let first = from[p];
-    let place = groups::place(i, first, core);
+    let place = standing::place(i, from[p], core);
     let cost = board.costs[p];
-    let weight = cost.weight;
     let doubled = floors::doubled(board.cores, from, asks);
-    let others = floors::with_floor(board.cores, weight, &doubled);
-    let own = rounds::own_at(cost.request, others, first, place, latest[i], costs, asks);
+    let own = own::own_of(
+        board.cores,
+        cost,
+        p,
+        i,
+        place,
+        latest,
+        from,
+        &doubled,
+        costs,
+        asks,
+    );
     climb::settle(own, from, spans, &invs, costs, asks, start)
 }

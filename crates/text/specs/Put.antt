@@ -2,21 +2,15 @@
 use mathlib.Core.Path.{_≡_}
 use mathlib.Core.Bool.{cond}
 use mathlib.Core.List.{List, _++_}
-use Prim.Native.Nat.{ℕ, _+_, _≤_}
+use Prim.Native.Nat.{ℕ, _+_}
 use lib.Dec.{leb}
 use lib.ListN.{length, drop}
 use lib.Seq.{sets}
-use Rattle.laws.specs.Decimal.{decimal}
 
 -- `next` is the place after the text, which has been stored byte by byte from place `at` on; no other byte changed
 pub record Put (before : List ℕ) (at : ℕ) (text : List ℕ) (next : ℕ) (after : List ℕ) : Type 0 where
   pub ends : next ≡ at + length text
   pub bytes : after ≡ sets before at text
-
--- the digits of n stand from place `first` on to the end
-pub record Spelled (n first : ℕ) (after : List ℕ) : Type 0 where
-  pub inside : first ≤ 20
-  pub digits : drop first after ≡ decimal n
 
 -- a text in a lent buffer: its length, and the bytes behind it are left. Where the buffer is too short the length is 0, and no byte changes
 abbrev pub givenLength : List ℕ → List ℕ → ℕ

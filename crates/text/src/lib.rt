@@ -1,10 +1,9 @@
 // Words and numbers as text in a lent buffer: put where there is room for them, given to a buffer whole or not at all.
-ghost use mathlib.Core.Path.{_≡_};
 ghost use mathlib.Core.List.{[], _∷_, _++_};
 ghost use Prim.Native.Nat.{_+_, _≤_};
 ghost use lib.ListN.{length};
 ghost use Rattle.laws.specs.Decimal.{decimal};
-ghost use Rattle.text.specs.Put.{Put, Spelled, Given};
+ghost use Rattle.text.specs.Put.{Put, Given};
 
 // ---- one after the other, the place after each being the answer: the caller sees that there is room
 
@@ -20,22 +19,6 @@ pub fn put_word(buf: &mut [u8], at: usize, word: &[u8]) -> usize
     at + i
 }
 
-// The digits of n at the end of d, the last digit last; the place of the first.
-fn spell(n: u64, d: &mut [u8]) -> usize
-    requires { ⌜ length (now d) ≡ 20 ⌝ }
-    ensures { λ r. ⌜ Spelled n r (now (d .exit)) ⌝ }
-{
-    let mut m = n;
-    let mut i: usize = 19;
-    while 10 <= m {
-        d[i] = 48 + (m % 10) as u8;
-        m = m / 10;
-        i -= 1;
-    }
-    d[i] = 48 + m as u8;
-    i
-}
-
 // A number in decimal digits, of which a u64 has at most 20.
 pub fn put_number(buf: &mut [u8], at: usize, n: u64) -> usize
     requires { ⌜ at + 20 ≤ length (now buf) ⌝ }
@@ -43,7 +26,7 @@ pub fn put_number(buf: &mut [u8], at: usize, n: u64) -> usize
     ensures { λ r. ⌜ r ≤ at + 20 ⌝ }
 {
     let mut d = [0u8; 20];
-    let i = spell(n, &mut d);
+    let i = digits::spell(n, &mut d);
     put_word(buf, at, &d[i..])
 }
 

@@ -1,3 +1,3 @@
 -- The laws that the proofs of this crate cite.
---     Accepted  what is known of an accepted file
-pub mod Accepted
+--     InFile  the tasks of the table that a file is
+pub mod InFile

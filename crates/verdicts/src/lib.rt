@@ -9,9 +9,8 @@ ghost use Rattle.rules.specs.Operations.{checkFile, checkToJudge, judgeAll};
 ghost use Rattle.groups.specs.Grouped.{PlacesBelow};
 ghost use Rattle.groups.specs.Columns.{PerTask, Columns};
 ghost use Rattle.rounds.specs.Lent.{lentOf};
-ghost use Rattle.columns.specs.Numbered.{pricedOf};
 ghost use Rattle.columns.specs.Held.{Held};
-use rounds::Priced;
+use prices::Priced;
 use rules::AllJudged;
 
 // Of each task of an accepted file its core and its latest allowed response.
@@ -27,7 +26,7 @@ fn per_task(file: &[u8], core: &mut [u8; 32], latest: &mut [u64; 32])
     while i < n {
         let task = fields::task_at(file, i);
         core[i] = task.core;
-        latest[i] = climb::latest(task);
+        latest[i] = basics::latest(task);
         i += 1;
     }
 }
@@ -59,21 +58,6 @@ fn columns(
     }
 }
 
-// What the cores cost each other.
-fn priced(file: &[u8]) -> Priced
-    requires { ⌜ isAccepted (checkFile (now file)) ≡ true ⌝ }
-    ensures { λ r. ⌜ r ≡ pricedOf (decode (now (file .entry))) ⌝ }
-{
-    let cores = places::size(file[0]);
-    let sets = fields::sets_in(file);
-    let costs = board::all_costs(file[3], cores, &sets, fields::row_in(file));
-    Priced {
-        tasks: places::size(file[2]),
-        cores,
-        costs,
-    }
-}
-
 // All that judging needs of it.
 fn laid(
     file: &[u8],
@@ -92,7 +76,7 @@ fn laid(
     ensures { λ t r. ⌜ Held t (lentOf r (now (core .exit)) (now (latest .exit)) (now (from .exit)) (now (spans .exit)) (now (costs .exit)) (now (asks .exit))) ⌝ }
 {
     per_task(file, core, latest);
-    let board = priced(file);
+    let board = file_prices::priced(file);
     let mut order = [0usize; 33];
     *from = groups::grouped(board.tasks, board.cores, core, &mut order);
     columns(file, &order, spans, costs, asks);

@@ -1,6 +1,6 @@
 -- All that judging needs of a table. Assumes nothing.
 use borrow.Author.Needs.{needs}
-use Rattle.groups.proofs.PlacesOn.{low-zeros}
+use Rattle.groups.proofs.Joining.{low-zeros}
 use Rattle.columns.proofs.laid.Statement.{statement}
 use Rattle.columns.proofs.laid.Tie as tie
 

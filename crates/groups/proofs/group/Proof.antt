@@ -3,8 +3,10 @@ use borrow.Author.Needs.{needs}
 use Prim.Native.Nat.{_+_, _≤_, _-_}
 use mathlib.Core.Path.{_≡_}
 use native.Mathlib.Omega.{arith}
-use Rattle.groups.specs.Grouped.{placesOn, Joined}
-use Rattle.groups.proofs.PlacesOn.{places-few, joined-none, joined-next}
+use Rattle.standing.specs.OnCore.{placesOn}
+use Rattle.standing.proofs.PlacesOn.{places-few}
+use Rattle.groups.specs.Grouped.{Joined}
+use Rattle.groups.proofs.Joining.{joined-none, joined-next}
 use Rattle.groups.proofs.group.Statement.{statement}
 use Rattle.groups.proofs.group.Tie as tie
 

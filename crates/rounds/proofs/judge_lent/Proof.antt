@@ -7,12 +7,11 @@ use native.Mathlib.Omega.{arith}
 use lib.ListN.{getD}
 use Rattle.laws.specs.Idioms.{Within}
 use Rattle.climb.specs.declared.Climbed.{Climbed}
-use Rattle.rounds.specs.Lent.{Lent, lentOf, placeAt, climbedAt}
+use Rattle.rounds.specs.Lent.{Lent, lentOf, placeAt, ownAt, climbedAt}
 use Rattle.releases.proofs.Quotients.{small-none}
-use Rattle.floors.proofs.Weighed.{others-are}
 use Rattle.unjudged.proofs.OnTime.{on-time}
 use Rattle.rounds.proofs.Nexts.{Nexts, nexts-none, nexts-next, next-at}
-use Rattle.rounds.proofs.Here.{here-ready, here-gives, cost-at, fits-at}
+use Rattle.rounds.proofs.Here.{fits-at, own-at, here-ready, here-gives}
 use Rattle.rounds.proofs.Judging.{Judging, Running, judging-starts, still-running, stops-high, goes-on-low, judging-done}
 use Rattle.rounds.proofs.judge_lent.Statement.{statement}
 use Rattle.rounds.proofs.judge_lent.Tie as tie
@@ -64,33 +63,38 @@ module _ (c : tie.In-loop Inv-loop μ-loop) where
   place-low : place ≤ 32
   place-low = omega (arith, stands, start .pre .place-low i here)
 
-with-floor-requires : tie.Need-with-floor-requires Inv-loop μ-loop
-with-floor-requires c κs =
-    let p = c .before .before .before .before in
+own-of-requires : tie.Need-own-of-requires Inv-loop μ-loop
+own-of-requires c κs =
+    let p = c .before .before .before in
     let s = start p in
-    fits-at (lent s) (s .pre) (i p) (here p) (cost-at (lent s) (s .pre) (i p) (here p) _) (p .before .before .before .doubled .ensures)
+    let doubled = p .before .before .before .doubled .ensures in
+    ((omega (arith, core-in p .low, core-in p .high), few p, place-low p), (doubled, fits-at (lent s) (s .pre) (i p) (here p) _ doubled))
+
+-- the task's own figures, and what the rounds give
+abbrev in-loop : tie.After-own-of Inv-loop μ-loop → tie.In-loop Inv-loop μ-loop
+in-loop c = c .before .before .before .before
+
+own-is : (c : tie.After-own-of Inv-loop μ-loop) → let p = in-loop c in c .own-of .result ≡ ownAt (lent (start p)) (i p)
+own-is c =
+    let p = in-loop c in
+    let s = start p in
+    own-at (lent s) (s .pre) (i p) (here p) _ (stands p) (c .own-of .ensures)
 
 settle-requires : tie.Need-settle-requires Inv-loop μ-loop
 settle-requires c κs =
-    let w = c .before .before .before .before .before in
-    let p = w .before .before .before .before .before in
-    let others = w .with-floor .ensures ∙ others-are _ _ (p .before .before .before .doubled .ensures) in
-    let s = start p in (
-      p .before .before .before .before .inverses .ensures,
-      rw (c .before .before .own-at .ensures, others) (here-ready (lent s) (i p) (stands p) (cost-at (lent s) (s .pre) (i p) (here p) _) (s .pre) _ (here p) (on-time (s .args .latest .now) (s .args .starts .now) (s .args .t1 .tasks) (runs p .none-late) .each (i p) (here p))),
-    )
+    let o = c .before .before in
+    let p = in-loop o in
+    let s = start p in
+    let soon = on-time (s .args .latest .now) (s .args .starts .now) (s .args .t1 .tasks) (runs p .none-late) .each (i p) (here p) in
+    (p .before .before .before .before .inverses .ensures, here-ready (lent s) (i p) (own-is o) (s .pre) (here p) soon)
 
 abbrev at-end : tie.After-settle Inv-loop μ-loop → tie.In-loop Inv-loop μ-loop
-at-end c = c .before .before .before .before .before .before .before .before .before .before .before
+at-end c = in-loop (c .before .before .before)
 
-gives : (c : tie.After-settle Inv-loop μ-loop) → let p = c .before .before .before .before .before .before .before .before .before .before .before in c .settle .result ≡ climbedAt (lent (start p)) (start p .args .starts .now) (i p + 1)
+gives : (c : tie.After-settle Inv-loop μ-loop) → let p = at-end c in c .settle .result ≡ climbedAt (lent (start p)) (start p .args .starts .now) (i p + 1)
 gives c =
-    let w = c .before .before .before .before .before .before in
-    let p = w .before .before .before .before .before in
-    let others = w .with-floor .ensures ∙ others-are _ _ (p .before .before .before .doubled .ensures) in
-    let s = start p in
-    c .settle .ensures
-    ∙ rw (c .before .before .before .own-at .ensures, others) (here-gives (lent s) (i p) (stands p) (cost-at (lent s) (s .pre) (i p) (here p) _) (s .args .starts .now))
+    let p = at-end c in
+    c .settle .ensures ∙ here-gives (lent (start p)) (i p) (own-is (c .before .before .before)) (start p .args .starts .now)
 
 loop-less : tie.Need-loop-less Inv-loop μ-loop
 loop-less c =
@@ -116,10 +120,8 @@ judge-lent-spec =
     (λ c κs. c .before .before .before .before .before .pre .lots) loop-holds few
     (λ c. omega (arith, core-in (c .before) .high)) (λ c. core-in (c .before) .low) (λ c. omega (arith, core-in (c .before) .high)) (λ c. omega (arith, core-in (c .before) .high))
     (λ c. omega (arith, place-low (c .before))) (λ c. omega (arith, core-in (c .before) .high)) (λ c. omega (arith, core-in (c .before) .high)) (λ c. omega (arith, core-in (c .before) .high))
-    (λ c. omega (arith, core-in (c .before) .low, core-in (c .before) .high)) with-floor-requires
-    (λ c. omega (arith, core-in (c .before .before .before .before .before) .high)) (λ c. omega (arith, core-in (c .before .before .before .before .before) .high))
-    (λ c. omega (arith, few (c .before .before .before .before .before .before))) (λ c. few (c .before .before .before .before .before .before)) (λ c κs. place-low (c .before .before .before .before .before .before .before))
-    (λ c. omega (arith, few (c .before .before .before .before .before .before .before .before .before))) (λ c. few (c .before .before .before .before .before .before .before .before .before)) settle-requires
+    (λ c. omega (arith, core-in (c .before) .low, core-in (c .before) .high)) own-of-requires
+    (λ c. omega (arith, few (in-loop (c .before)))) (λ c. few (in-loop (c .before))) settle-requires
     (λ c. omega (arith, few (at-end (c .before)))) (λ c. omega (arith, few (at-end (c .before)))) (λ c κs. search needs) (λ c κs. search needs)
     (λ c. omega (arith, few (at-end (c .before .before)))) (λ c. few (at-end (c .before .before))) (λ c. omega (arith, few (at-end (c .before)))) loop-less loop-again
     (λ c. judging-done _ _ (omega arith) (c .before .loop .inv .0)))

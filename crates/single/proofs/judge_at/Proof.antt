@@ -1,15 +1,12 @@
 -- One task of lent columns. Assumes nothing.
-use mathlib.Core.Path.{_≡_, ap, _∙_}
+use mathlib.Core.Path.{_≡_, _∙_}
 use Prim.Native.Nat.{ℕ, _-_, _≤_, _<_}
 use native.Mathlib.Omega.{arith}
 use lib.ListN.{getD}
 use Rattle.laws.specs.Idioms.{Within}
 use Rattle.releases.proofs.Quotients.{small-none}
-use Rattle.floors.proofs.Weighed.{others-are}
-use Rattle.terms.specs.Terms.{Terms}
-use Rattle.climb.specs.Run.{climbed}
-use Rattle.rounds.specs.Lent.{Lent, lentOf, placeAt, Judgeable}
-use Rattle.rounds.proofs.Here.{here-terms, here-ready, cost-at, fits-at}
+use Rattle.rounds.specs.Lent.{Lent, lentOf, placeAt, ownAt, Judgeable}
+use Rattle.rounds.proofs.Here.{fits-at, own-at, here-ready, here-climbed}
 use Rattle.single.proofs.judge_at.Statement.{statement}
 use Rattle.single.proofs.judge_at.Tie as tie
 
@@ -41,29 +38,32 @@ stands : (c : tie.After-place) → c .place .result ≡ placeAt (lent (c .before
 unfolding placeAt
 stands c = c .place .ensures
 
-with-floor-requires : tie.Need-with-floor-requires
-with-floor-requires c κs =
-    let s = c .before .before .before .before .before .before .before .before .before in
-    fits-at (lent s) (judgeable s) (i s) (here s) (cost-at (lent s) (judgeable s) (i s) (here s) _) (c .before .doubled .ensures)
+place-low : (c : tie.After-place) → c .place .result ≤ 32
+place-low c = let s = c .before .before .before .before .before in omega (arith, stands c, judgeable s .place-low (i s) (here s))
+
+own-of-requires : tie.Need-own-of-requires
+own-of-requires c κs =
+    let at = c .before .before .before in
+    let s = at .before .before .before .before .before in
+    let doubled = c .before .doubled .ensures in
+    ((omega (arith, core-in s .low, core-in s .high), few s, place-low at), (doubled, fits-at (lent s) (judgeable s) (i s) (here s) _ doubled))
+
+abbrev start : tie.After-own-of → tie.Start
+start c = c .before .before .before .before .before .before .before .before .before
+
+own-is : (c : tie.After-own-of) → c .own-of .result ≡ ownAt (lent (start c)) (i (start c))
+own-is c = let s = start c in own-at (lent s) (judgeable s) (i s) (here s) _ (stands (c .before .before .before .before)) (c .own-of .ensures)
 
 settle-requires : tie.Need-settle-requires
 settle-requires c κs =
-    let w = c .before .before .before in
-    let s = w .before .before .before .before .before .before .before .before .before .before in
-    let cost = cost-at (lent s) (judgeable s) (i s) (here s) _ in
-    let others = w .with-floor .ensures ∙ others-are _ _ (w .before .before .doubled .ensures) in (
-      c .before .before .before .before .before .before .before .before .before .before .before .inverses .ensures,
-      rw (c .before .own-at .ensures, others) (here-ready (lent s) (i s) (stands (w .before .before .before .before .before)) cost (judgeable s) _ (here s) (s .pre .1 .1)),
-    )
+    let o = c .before in
+    let s = start o in
+    (o .before .before .before .before .before .before .before .inverses .ensures, here-ready (lent s) (i s) (own-is o) (judgeable s) (here s) (s .pre .1 .1))
 
 returns : tie.Need-returns
 returns c =
-    let w = c .before .before .before .before in
-    let s = w .before .before .before .before .before .before .before .before .before .before in
-    let cost = cost-at (lent s) (judgeable s) (i s) (here s) _ in
-    let others = w .with-floor .ensures ∙ others-are _ _ (w .before .before .doubled .ensures) in
-    c .settle .ensures
-    ∙ rw (c .before .before .own-at .ensures, others) (ap (λ (m : Terms). climbed m (s .args .start)) (here-terms (lent s) (i s) (stands (w .before .before .before .before .before)) cost))
+    let o = c .before .before in
+    c .settle .ensures ∙ here-climbed (lent (start o)) (i (start o)) (own-is o) (start o .args .start)
 
 pub judge-at-spec : {M : Type 1} → statement M
 judge-at-spec =
@@ -71,6 +71,5 @@ judge-at-spec =
     (tie.spec (λ c κs. (omega (arith, judgeable (c .before) .few), small-none 33)) (λ c. few (c .before .before)) (λ c. omega (arith, core-in (c .before .before .before) .high))
     (λ c. core-in (c .before .before .before) .low) (λ c. omega (arith, core-in (c .before .before .before) .high)) (λ c. omega (arith, core-in (c .before .before .before) .high))
     (λ c κs. (few (c .before .before .before .before), first-low (c .before .before .before .before))) (λ c. omega (arith, core-in (c .before .before .before .before .before) .high))
-    (λ c. omega (arith, core-in (c .before .before .before .before .before) .low, core-in (c .before .before .before .before .before) .high)) (λ c κs. judgeable (c .before .before .before .before .before .before .before) .lots) with-floor-requires
-    (λ c. omega (arith, few (c .before .before .before .before .before .before .before .before .before .before))) (λ c. few (c .before .before .before .before .before .before .before .before .before .before))
-    (λ c κs. let s = c .before .before .before .before .before .before .before .before .before .before .before in omega (arith, stands (c .before .before .before .before .before .before), judgeable s .place-low (i s) (here s))) settle-requires returns)
+    (λ c. omega (arith, core-in (c .before .before .before .before .before) .low, core-in (c .before .before .before .before .before) .high)) (λ c κs. judgeable (c .before .before .before .before .before .before) .lots) own-of-requires
+    settle-requires returns)

@@ -1,7 +1,7 @@
 -- `put_number` meets its contract: the part of the twenty places that holds the digits is put. Assumes nothing.
 use native.Mathlib.Omega.{arith}
 use borrow.Author.Needs.{needs}
-use Rattle.text.proofs.Decimal.{spelled-part, spelled-short}
+use Rattle.digits.proofs.Decimal.{spelled-part, spelled-short}
 use Rattle.text.proofs.put_number.Statement.{statement}
 use Rattle.text.proofs.put_number.Tie as tie
 

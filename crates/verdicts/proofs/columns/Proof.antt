@@ -8,7 +8,7 @@ use Rattle.rules.specs.File.{tasksIn, decode}
 use Rattle.file.proofs.Reading.{file-sized, file-counts}
 use Rattle.groups.specs.Columns.{Columns}
 use Rattle.groups.proofs.Filling.{columns-none, columns-next}
-use Rattle.verdicts.proofs.Accepted.{tasks-are, task-in-place}
+use Rattle.verdicts.proofs.InFile.{tasks-are, task-in-place}
 use Rattle.verdicts.proofs.columns.Statement.{statement}
 use Rattle.verdicts.proofs.columns.Tie as tie
 

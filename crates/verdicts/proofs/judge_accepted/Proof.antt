@@ -5,7 +5,7 @@ use Rattle.rules.specs.File.{decode}
 use Rattle.facts.proofs.ToJudge.{judged-file, judged-table}
 use Rattle.columns.proofs.Holding.{of-judgeable}
 use Rattle.columns.proofs.AllJudged.{judged-is}
-use Rattle.verdicts.proofs.Accepted.{file-sound}
+use Rattle.file.proofs.Reading.{file-sound}
 use Rattle.verdicts.proofs.judge_accepted.Statement.{statement}
 use Rattle.verdicts.proofs.judge_accepted.Tie as tie
 

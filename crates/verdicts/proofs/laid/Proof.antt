@@ -1,7 +1,7 @@
 -- All that judging needs of an accepted file. Assumes nothing.
 use borrow.Author.Needs.{needs}
-use Rattle.groups.proofs.PlacesOn.{low-zeros}
-use Rattle.verdicts.proofs.Accepted.{file-sound}
+use Rattle.groups.proofs.Joining.{low-zeros}
+use Rattle.file.proofs.Reading.{file-sound}
 use Rattle.verdicts.proofs.laid.Statement.{statement}
 use Rattle.verdicts.proofs.laid.Tie as tie
 

@@ -8,7 +8,7 @@ use Rattle.rules.specs.File.{tasksIn, decode}
 use Rattle.file.proofs.Reading.{file-sized, file-counts}
 use Rattle.groups.specs.Columns.{PerTask}
 use Rattle.groups.proofs.Filling.{per-task-none, per-task-next}
-use Rattle.verdicts.proofs.Accepted.{tasks-are, task-in-place}
+use Rattle.verdicts.proofs.InFile.{tasks-are, task-in-place}
 use Rattle.verdicts.proofs.per_task.Statement.{statement}
 use Rattle.verdicts.proofs.per_task.Tie as tie
 

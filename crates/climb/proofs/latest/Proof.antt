@@ -1,9 +1,0 @@
--- The latest allowed response. Assumes nothing.
-use mathlib.Core.Path.{refl}
-use Rattle.rules.specs.Tasks.{latest}
-use Rattle.climb.proofs.latest.Statement.{statement}
-use Rattle.climb.proofs.latest.Tie as tie
-
-pub latest-spec : {M : Type 1} → statement M
-unfolding latest
-latest-spec = tie.close (tie.spec (λ c. refl))

@@ -1,0 +1,3 @@
+-- Laws that belong to no one function.
+--     Decimal  the digits of a number
+pub mod Decimal

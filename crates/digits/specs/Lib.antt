@@ -1,0 +1,3 @@
+-- What the contract of this crate cites beside the laws.
+--     Spelled  a number in decimal digits
+pub mod Spelled

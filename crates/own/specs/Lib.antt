@@ -1,0 +1,2 @@
+-- What the contract of a task's own figures cites.
+pub mod Own
