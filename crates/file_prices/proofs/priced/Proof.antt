@@ -1,6 +1,6 @@
 -- What the cores of an accepted file cost each other. Assumes nothing.
 use borrow.Author.Needs.{needs}
-use mathlib.Core.Path.{_≡_, refl}
+use mathlib.Core.Path.{refl}
 use native.Mathlib.Omega.{arith}
 use Rattle.rules.specs.File.{decode}
 use Rattle.fields.proofs.Steps.{sets-end}

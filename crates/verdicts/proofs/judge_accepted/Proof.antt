@@ -1,5 +1,4 @@
 -- A file that may be judged, judged from its bytes. Assumes nothing.
-use borrow.Author.Needs.{needs}
 use mathlib.Core.Path.{refl, _∙_}
 use Rattle.rules.specs.File.{decode}
 use Rattle.facts.proofs.ToJudge.{judged-file, judged-table}

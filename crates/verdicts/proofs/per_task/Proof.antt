@@ -1,9 +1,9 @@
 -- Of each task its core and its latest allowed response. Assumes nothing.
 use borrow.Author.Needs.{needs}
-use mathlib.Core.Path.{_≡_, refl, _∙_}
-use Prim.Native.Nat.{_+_, _≤_, _<_, _-_}
+use mathlib.Core.Path.{_≡_, _∙_}
+use Prim.Native.Nat.{_≤_, _<_, _-_}
 use native.Mathlib.Omega.{arith}
-use lib.ListN.{length, length-set, getD}
+use lib.ListN.{length, length-set}
 use Rattle.rules.specs.File.{tasksIn, decode}
 use Rattle.file.proofs.Reading.{file-sized, file-counts}
 use Rattle.groups.specs.Columns.{PerTask}
