@@ -1,3 +1,3 @@
 -- The laws that the proof of the function cites.
---     Judging   the three ways in which a file's judgement ends
+--     Judging   the two ways in which a file's judgement ends
 pub mod Judging

@@ -19,9 +19,5 @@ pub fn judge_file(
         return refusal;
     }
     let judged = verdicts::judge_accepted(file, plain::all_starts(starts));
-    if judged.refusal.number != 0 {
-        return judged.refusal;
-    }
-    let answers = judged.answers;
-    stored::store_answers(answers, places::size(file[2]), bounds, rounds, by)
+    outcome::store(judged, places::size(file[2]), bounds, rounds, by)
 }

@@ -9,7 +9,7 @@ use Rattle.rules.specs.Operations.{checkToJudge, judgeAll}
 use Rattle.facts.proofs.Chain.{passes}
 use Rattle.facts.proofs.ToJudge.{judged-file}
 use Rattle.file.proofs.Reading.{file-sized, file-counts}
-use Rattle.judged.proofs.Judging.{lentStarts, file-refused, start-refused, all-judged}
+use Rattle.judged.proofs.Judging.{lentStarts, file-refused, all-judged}
 use Rattle.judged.proofs.judge_file.Statement.{statement}
 use Rattle.judged.proofs.judge_file.Tie as tie
 
@@ -22,25 +22,19 @@ gave c = c .judge-accepted .ensures ∙ ap (judgeAll (decode (c .before .before 
 returns : tie.Need-returns
 returns c = file-refused _ _ (c .before .before .check .ensures) (c .if1 .taken)
 
+few : tie.Need-store-requires
+few c κs = rw (c .before .before .before .size .ensures .0) (file-counts _ (judged-file _ (accepts (c .before .before .before .before .before .before .before))) .1)
+
 returns-2 : tie.Need-returns-2
 returns-2 c =
-    let j = c .before .before .before in
-    start-refused _ _ (accepts (j .before .before)) (gave j) (c .before .if2 .taken)
-
-few : tie.Need-store-answers-requires
-few c κs = rw (c .before .before .before .size .ensures .0) (file-counts _ (judged-file _ (accepts (c .before .before .before .before .before .before .before .before .before .before))) .1)
-
-returns-3 : tie.Need-returns-3
-returns-3 c =
-    let sa = c .before .before .before .before .before .before in
-    let size = sa .before .before .before .before .size .ensures .0 in
-    let e2 = sa .before .before .before .before .before .before .before in
-    let j = e2 .before .before in
-    all-judged _ _ (accepts (j .before .before)) (gave j) (e2 .if2 .left) (rw size at (sa .store-answers .ensures .0)) (rw size at (sa .store-answers .ensures .1))
+    let stored = c .before .before .before .before .before .before in
+    let size = stored .before .before .before .before .size .ensures .0 in
+    let judged = stored .before .before .before .before .before .before in
+    all-judged _ _ (accepts (judged .before .before)) (gave judged) (rw size at (stored .store .ensures .0)) (rw size at (stored .store .ensures .1))
 
 pub judge-file-spec : {M : Type 1} → statement M
 judge-file-spec =
     tie.close
-    (tie.spec (λ c κs. search needs) returns (λ c κs. search needs) (λ c κs. accepts (c .before)) returns-2
-    (λ c. omega (arith, file-sized _ (judged-file _ (accepts (c .before .before .before .before .before .before))) .long)) (λ c κs. search needs) few
-    (λ c. search needs) (λ c. search needs) (λ c. search needs) returns-3)
+    (tie.spec (λ c κs. search needs) returns (λ c κs. search needs) (λ c κs. accepts (c .before))
+    (λ c. omega (arith, file-sized _ (judged-file _ (accepts (c .before .before .before))) .long)) (λ c κs. search needs) few
+    (λ c. search needs) (λ c. search needs) (λ c. search needs) returns-2)
