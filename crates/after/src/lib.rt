@@ -1,13 +1,16 @@
-// The answers of a newer table after an older one, where both may be judged.
+// The answers of a newer table after an older one, where both may be judged; and those put into three outputs that are lent.
 ghost use mathlib.Core.Path.{_≡_};
 ghost use mathlib.Core.Bool.{true};
+ghost use lib.ListN.{take};
 ghost use Rattle.laws.specs.Idioms.{entry};
 ghost use Rattle.rules.specs.Chain.{isAccepted};
 ghost use Rattle.rules.specs.Refusals.{checkJudged};
 ghost use Rattle.rules.specs.Order.{worsens};
 ghost use Rattle.rules.specs.Operations.{answersFrom, rejudging, olderBounds};
 ghost use Rattle.facts.specs.Starts.{AllAllowed};
+ghost use Rattle.stored.specs.Stored.{checkOutputs, Stored};
 use rules::Answer;
+use rules::Refusal;
 use rules::Table;
 
 // The answers of a table that may be judged, from starts none of which is refused.
@@ -52,4 +55,22 @@ pub fn answers_after(older: Table, newer: Table, carried: bool) -> [Answer; 32]
     }
     let fresh = [0u64; 32];
     answers(newer, fresh)
+}
+
+// The answers of two tables that may be judged into the outputs; 255 where one is too short for them, and nothing changes.
+pub fn store_after(
+    older: Table,
+    newer: Table,
+    bounds: &mut [u64],
+    rounds: &mut [u64],
+    by: &mut [u8],
+) -> Refusal
+    requires { ⌜ isAccepted (checkJudged older) ≡ true ⌝ }
+    requires { ⌜ isAccepted (checkJudged newer) ≡ true ⌝ }
+    ensures { λ r. ⌜ r ≡ checkOutputs (newer .tasks) (now (bounds .entry)) (now (rounds .entry)) (now (by .entry)) ⌝ }
+    ensures { λ r. ⌜ Stored r (take (newer .tasks) (rejudging older newer .answers)) (now (bounds .entry)) (now (rounds .entry)) (now (by .entry)) (now (bounds .exit)) (now (rounds .exit)) (now (by .exit)) ⌝ }
+{
+    let n = newer.tasks as usize;
+    let answers = answers_after(older, newer, order::worsens(older, newer));
+    stored::store_answers(answers, n, bounds, rounds, by)
 }

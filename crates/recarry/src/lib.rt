@@ -1,15 +1,8 @@
 // A newer table file judged after an older one, from the older bounds where that is sound, into three outputs that are lent.
 use rules::Faulty;
 use rules::Refusal;
-use rules::Table;
 ghost use mathlib.Core.Path.{_≡_};
-ghost use mathlib.Core.Bool.{true};
 ghost use Prim.Native.Nat.{_≤_};
-ghost use lib.ListN.{take};
-ghost use Rattle.rules.specs.Chain.{isAccepted};
-ghost use Rattle.rules.specs.Refusals.{checkJudged};
-ghost use Rattle.rules.specs.Operations.{rejudging};
-ghost use Rattle.stored.specs.Stored.{checkOutputs, Stored};
 ghost use Rattle.recarry.specs.Files.{carryRefusal, CarriedFiles, filesWorsen, tableNumber, carryCode};
 
 // Why nothing is judged, and which of the two files that is about: neither where an output is too short.
@@ -36,24 +29,6 @@ pub fn code(refused: CarryRefusal) -> u32
     let faulty = refused.faulty;
     let refusal = refused.refusal;
     (plain::code(refusal) as u32) + 65536 * table_number(faulty)
-}
-
-// The answers of two tables that may be judged into the outputs; 255 where one is too short for them, and nothing changes.
-fn store_after(
-    older: Table,
-    newer: Table,
-    bounds: &mut [u64],
-    rounds: &mut [u64],
-    by: &mut [u8],
-) -> Refusal
-    requires { ⌜ isAccepted (checkJudged older) ≡ true ⌝ }
-    requires { ⌜ isAccepted (checkJudged newer) ≡ true ⌝ }
-    ensures { λ r. ⌜ r ≡ checkOutputs (newer .tasks) (now (bounds .entry)) (now (rounds .entry)) (now (by .entry)) ⌝ }
-    ensures { λ r. ⌜ Stored r (take (newer .tasks) (rejudging older newer .answers)) (now (bounds .entry)) (now (rounds .entry)) (now (by .entry)) (now (bounds .exit)) (now (rounds .exit)) (now (by .exit)) ⌝ }
-{
-    let n = newer.tasks as usize;
-    let answers = after::answers_after(older, newer, order::worsens(older, newer));
-    stored::store_answers(answers, n, bounds, rounds, by)
 }
 
 // The older file's 1 to 11, 16 and 18, then the newer's, then 255 where an output has fewer places than the newer file has tasks; or every task's answer.
@@ -86,7 +61,7 @@ pub fn carry_files(
     }
     let before = was.table;
     let after = is.table;
-    let last = store_after(before, after, bounds, rounds, by);
+    let last = after::store_after(before, after, bounds, rounds, by);
     CarryRefusal {
         refusal: last,
         faulty: Faulty::Neither,

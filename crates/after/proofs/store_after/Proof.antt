@@ -2,8 +2,8 @@
 use borrow.Author.Needs.{needs}
 use native.Mathlib.Omega.{arith}
 use Rattle.facts.proofs.Starts.{judged-sound}
-use Rattle.recarry.proofs.store_after.Statement.{statement}
-use Rattle.recarry.proofs.store_after.Tie as tie
+use Rattle.after.proofs.store_after.Statement.{statement}
+use Rattle.after.proofs.store_after.Tie as tie
 
 store-answers-requires : tie.Need-store-answers-requires
 store-answers-requires c κs =
