@@ -1,5 +1,6 @@
 -- The laws that other proofs cite, and what makes the theory of `equation` hold of an accepted table.
 --     Reading     what an accepted file is known to be
+--     Came        what refusals 1 to 4 leave of a file
 --     ToJudge     a file that is to be judged
 --     First       the first place at fault
 --     Chain       a chain of refusals that gives none
@@ -28,6 +29,7 @@ pub mod Chain
 pub mod Rows
 pub mod Accepted
 pub mod Reading
+pub mod Came
 pub mod ToJudge
 pub mod SoundTasks
 pub mod Weights

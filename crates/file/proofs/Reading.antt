@@ -12,7 +12,7 @@ use Rattle.facts.specs.Sound.{Sound}
 use Rattle.facts.proofs.Accepted.{sound}
 use Rattle.facts.proofs.Reading.{file-whole, decoded-accepted}
 use Rattle.fields.specs.Places.{Sized}
-use Rattle.arrival.proofs.Came.{whole}
+use Rattle.facts.proofs.Came.{whole}
 
 module _ (s : List ℕ) where
   -- ---- the first part, then the second

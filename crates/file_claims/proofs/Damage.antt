@@ -11,7 +11,7 @@ use Rattle.rules.specs.File.{trailer}
 use Rattle.laws.specs.Bytes.{Bytes}
 use Rattle.laws.proofs.ByteLists.{bytes-set}
 use Rattle.file_claims.proofs.ByteSums.{sum-set}
-use Rattle.arrival.proofs.Came.{Whole}
+use Rattle.facts.proofs.Came.{Whole}
 use Rattle.file_claims.proofs.Whole.{before, before-and-trailer}
 
 -- the length of a whole file is told by bytes that a cut keeps

@@ -18,7 +18,7 @@ use Rattle.rules.proofs.EveryRule.{every-rule}
 use Rattle.facts.proofs.Chain.{both-accepted, no-fault}
 use Rattle.facts.proofs.Reading.{reading-is, refusal-read, decoded-accepted, read-table, read-accepted}
 use Rattle.file_claims.specs.Files.{AcceptedFile, AcceptedTable, Check, readCheck, Damage, PointOne, Shape, cleared, Return, ReturnInPlace, OneToOne, NotEmpty}
-use Rattle.arrival.proofs.Came.{whole, came-whole}
+use Rattle.facts.proofs.Came.{whole, came-whole}
 use Rattle.file_claims.proofs.Damage.{not-cut, not-altered}
 use Rattle.file_claims.proofs.FromFile.{already-cleared, shape-of-read, written-again}
 use Rattle.file_claims.proofs.FromTable.{file-small, encode-whole, read-again}

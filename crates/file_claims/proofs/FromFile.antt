@@ -17,7 +17,7 @@ use Rattle.laws.proofs.Runs.{length-map-from}
 use Rattle.laws.proofs.Filled.{filled-length, take-filled}
 use Rattle.laws.proofs.Rows.{written-back}
 use Rattle.file_claims.proofs.Codes.{number-code, task-code}
-use Rattle.arrival.proofs.Came.{Whole}
+use Rattle.facts.proofs.Came.{Whole}
 use Rattle.file_claims.proofs.Whole.{before, before-and-trailer}
 use Rattle.file_claims.proofs.Places.{header, figureBytes, setBytes, taskBytes, body-parts, figure-ladder, set-ladder, record-ladder, sets-after-figures, records-after-sets, trailer-after-records, parts-joined}
 

@@ -11,7 +11,7 @@ use Rattle.laws.specs.Idioms.{numberIn, bytesOf, part}
 use Rattle.laws.specs.Bytes.{Bytes}
 use Rattle.laws.proofs.Bytes.{number-bytes}
 use Rattle.laws.proofs.ByteLists.{part-join, part-known}
-use Rattle.arrival.proofs.Came.{Whole}
+use Rattle.facts.proofs.Came.{Whole}
 use Rattle.file_claims.proofs.ByteSums.{sum-fits, running-fits}
 
 -- what stands before the trailer
