@@ -1,6 +1,8 @@
-// Four numbers of 16 bits in a word: taken from eight bytes, added up, and the two sums of bytes taken out of them.
+// The two sums of at most 16 words of lent bytes, eight bytes at a time.
 ghost use mathlib.Core.Path.{_≡_};
-ghost use Prim.Native.Nat.{_+_, _*_, _≤_};
+ghost use Prim.Native.Nat.{_+_, _*_, _%_, _≤_};
+ghost use lib.ListN.{length};
+ghost use Rattle.lanes.specs.Sums.{sumsOf};
 ghost use Rattle.lanes.specs.Lanes.{evensOf, addedOf, weighedOf, early, sumsIn};
 
 // RULES 7.3: of some bytes the sum, and the sum of the running sums.
@@ -10,7 +12,7 @@ pub struct Totals {
 }
 
 // The bytes in the even places of a word, in a lane of 16 bits each. The compiler makes one mask of it.
-pub fn evens(w: u64) -> u64
+fn evens(w: u64) -> u64
     ensures { λ r. ⌜ r ≡ evensOf w ⌝ }
 {
     let x = w / 65536;
@@ -41,7 +43,7 @@ fn weighed(w: u64) -> u64
 }
 
 // The two sums, taken out of the lanes.
-pub fn out_of_lanes(e: u64, o: u64, re: u64, ro: u64) -> Totals
+fn out_of_lanes(e: u64, o: u64, re: u64, ro: u64) -> Totals
     requires { ⌜ early e o ≤ 8 * (addedOf re + addedOf ro) ⌝ }
     ensures { λ r. ⌜ r ≡ sumsIn e o re ro ⌝ }
 {
@@ -51,4 +53,27 @@ pub fn out_of_lanes(e: u64, o: u64, re: u64, ro: u64) -> Totals
         sum: added(e) + odd,
         running: 8 * (added(re) + added(ro)) - early,
     }
+}
+
+// At most 16 words: eight columns of bytes, added up and their running sums added up in lanes that have room for that.
+pub fn word_sums(s: &[u8]) -> Totals
+    requires { ⌜ length (now s) ≤ 128 ⌝ }
+    requires { ⌜ length (now s) % 8 ≡ 0 ⌝ }
+    ensures { λ r. ⌜ r ≡ sumsOf (now (s .entry)) ⌝ }
+{
+    let mut e: u64 = 0;
+    let mut o: u64 = 0;
+    let mut re: u64 = 0;
+    let mut ro: u64 = 0;
+    let n = s.len() / 8;
+    let mut k: usize = 0;
+    while k < n {
+        let w = bytes::le64(s, 8 * k);
+        e += evens(w);
+        o += evens(w / 256);
+        re += e;
+        ro += o;
+        k += 1;
+    }
+    out_of_lanes(e, o, re, ro)
 }

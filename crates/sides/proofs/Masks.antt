@@ -12,8 +12,7 @@ use lib.Bits.{bitAnd, and-step}
 use lib.Count.{ones, ones-step}
 use lib.ListN.{length}
 use Rattle.laws.specs.Idioms.{those, isEmpty, from}
-use Rattle.sharing.specs.Side.{asBit}
-use Rattle.sides.specs.Masks.{maskFrom}
+use Rattle.sides.specs.Masks.{asBit, maskFrom}
 
 -- ---- one bit more, below the others
 

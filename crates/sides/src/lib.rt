@@ -3,8 +3,30 @@ ghost use mathlib.Core.Path.{_≡_};
 ghost use Prim.Native.Nat.{_≤_};
 ghost use lib.ListN.{replicate};
 ghost use mathlib.Core.Bool.{true, false};
-ghost use Rattle.sharing.specs.Side.{onSide};
-ghost use Rattle.sides.specs.Masks.{mask, sideMasks};
+ghost use Rattle.rules.specs.Cores.{share};
+ghost use Rattle.sides.specs.Masks.{asBit, mask, onSide, sideMasks};
+
+// The two sets have a partition in common.
+pub fn shares(a: u16, b: u16) -> bool
+    ensures { λ r. ⌜ r ≡ share a b ⌝ }
+{
+    a & b != 0
+}
+
+// Whether core q is on the near side of p, or on the far side, as a bit.
+fn on_side(sets: &[u16; 8], p: usize, q: usize, near: bool) -> u8
+    requires { ⌜ (1 ≤ p) × (p ≤ 8) × (1 ≤ q) × (q ≤ 8) ⌝ }
+    ensures { λ r. ⌜ (r ≡ asBit (onSide near (now (sets .entry)) p q)) × (r ≤ 1) ⌝ }
+{
+    if q == p {
+        return 0;
+    }
+    if shares(sets[p - 1], sets[q - 1]) == near {
+        1
+    } else {
+        0
+    }
+}
 
 // The cores near a core and those far from it, as bits.
 pub struct Sides {
@@ -22,8 +44,8 @@ fn sides_of(cores: usize, sets: &[u16; 8], p: usize) -> Sides
     let mut far: u8 = 0;
     let mut q = cores;
     while 0 < q {
-        near = near * 2 + sharing::on_side(sets, p, q, true);
-        far = far * 2 + sharing::on_side(sets, p, q, false);
+        near = near * 2 + on_side(sets, p, q, true);
+        far = far * 2 + on_side(sets, p, q, false);
         q -= 1;
     }
     Sides { near, far }

@@ -51,7 +51,7 @@ pub fn sums(s: &[u8]) -> Totals
     let mut at: usize = 0;
     while at + 8 <= s.len() {
         let e = at + 8 * least(16, (s.len() - at) / 8);
-        let words = word_sums::word_sums(&s[at..e]);
+        let words = lanes::word_sums(&s[at..e]);
         t = joined(t, words, e - at);
         at = e;
     }

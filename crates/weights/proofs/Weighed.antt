@@ -18,8 +18,7 @@ use Rattle.facts.specs.Prices.{weight}
 use Rattle.facts.proofs.Weights.{share-comm, by-weights}
 use Rattle.delays.specs.declared.Figures.{Figures}
 use Rattle.delays.specs.Figures.{figuresOf, FiguresBounded}
-use Rattle.sharing.specs.Side.{asBit}
-use Rattle.sides.specs.Masks.{mask, sideMasks}
+use Rattle.sides.specs.Masks.{asBit, mask, sideMasks}
 use Rattle.weights.specs.Shows.{Shows}
 use Rattle.laws.specs.Idioms.{sumOver, those, upTo, entry, isEmpty}
 use Rattle.laws.proofs.Places.{place-of}

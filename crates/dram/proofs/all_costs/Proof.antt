@@ -12,8 +12,7 @@ use Rattle.facts.specs.Prices.{dramPrices}
 use Rattle.prices.specs.Costs.{costsAt, noCosts}
 use Rattle.laws.specs.Idioms.{from, upTo, filled}
 use Rattle.laws.proofs.Places.{place-next, place-of}
-use Rattle.sharing.specs.Side.{onSide}
-use Rattle.sides.specs.Masks.{mask, sideMasks}
+use Rattle.sides.specs.Masks.{mask, onSide, sideMasks}
 use Rattle.dram.proofs.Bounds.{small}
 use Rattle.dram.proofs.all_costs.Statement.{statement}
 use Rattle.dram.proofs.all_costs.Tie as tie

@@ -5,8 +5,7 @@ use mathlib.Core.List.{map}
 use Prim.Native.Nat.{_-_, _≤_}
 use borrow.Author.Needs.{needs}
 use native.Mathlib.Omega.{arith}
-use Rattle.sharing.specs.Side.{onSide}
-use Rattle.sides.specs.Masks.{mask, sideMasks}
+use Rattle.sides.specs.Masks.{mask, onSide, sideMasks}
 use Rattle.laws.specs.Idioms.{from, upTo, filled}
 use Rattle.laws.proofs.Places.{place-next}
 use Rattle.sides.proofs.all_sides.Statement.{statement}

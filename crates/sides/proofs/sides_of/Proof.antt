@@ -5,8 +5,7 @@ use Prim.Native.Nat.{ℕ, _+_, _-_, _*_, _≤_, _<_}
 use borrow.Author.Needs.{needs}
 use native.Mathlib.Nat.{sub-zero}
 use native.Mathlib.Omega.{arith}
-use Rattle.sharing.specs.Side.{onSide}
-use Rattle.sides.specs.Masks.{maskFrom}
+use Rattle.sides.specs.Masks.{maskFrom, onSide}
 use Rattle.sides.proofs.Masks.{mask-step, mask-room}
 use Rattle.sides.proofs.sides_of.Statement.{statement}
 use Rattle.sides.proofs.sides_of.Tie as tie

@@ -6,7 +6,7 @@ use borrow.Author.Needs.{needs}
 use lib.ListN.{length, take}
 use lib.Seq.{take-length}
 use Rattle.rules.specs.File.{sumOf, runningSum}
-use Rattle.word_sums.proofs.Running.{sum-next, running-next}
+use Rattle.lanes.proofs.Running.{sum-next, running-next}
 use Rattle.sums.proofs.byte_sums.Statement.{statement}
 use Rattle.sums.proofs.byte_sums.Tie as tie
 

@@ -5,9 +5,9 @@ use Prim.Native.Nat.{ℕ}
 use lib.Dec.{eqb}
 use borrow.Author.Needs.{needs}
 use borrow.Author.Tests.{eq-eqb, ne-eqb}
-use Rattle.sharing.specs.Side.{asBit}
-use Rattle.sharing.proofs.on_side.Statement.{statement}
-use Rattle.sharing.proofs.on_side.Tie as tie
+use Rattle.sides.specs.Masks.{asBit}
+use Rattle.sides.proofs.on_side.Statement.{statement}
+use Rattle.sides.proofs.on_side.Tie as tie
 
 -- of another core: whether sharing is what was asked for
 other : (p q : ℕ) (near r s b : Bool) → (q ≡ p → ⊥) → r ≡ s → Bool·beq r near ≡ b → asBit b ≡ asBit (not (eqb q p) && cond near s (not s))

@@ -4,10 +4,10 @@ use mathlib.Core.Path.{_∙_}
 use native.Mathlib.Omega.{arith}
 use borrow.Author.Needs.{needs}
 use lib.ListN.{getD}
 use Rattle.lanes.specs.Lanes.{evensOf}
-use Rattle.word_sums.proofs.Words.{Held, held-none, held-next, held-fits, early-fits, sums-in}
-use Rattle.word_sums.proofs.word_sums.Statement.{statement}
-use Rattle.word_sums.proofs.word_sums.Tie as tie
+use Rattle.lanes.proofs.Words.{Held, held-none, held-next, held-fits, early-fits, sums-in}
+use Rattle.lanes.proofs.word_sums.Statement.{statement}
+use Rattle.lanes.proofs.word_sums.Tie as tie
 
 abbrev Inv-loop : tie.InvT-loop
 Inv-loop s e₀ o₀ re₀ ro₀ n k₀ e o re ro k = (k ≤ n) × Held s k e o re ro

@@ -8,10 +8,10 @@ use lib.ListN.{length, take, getD}
 use lib.Seq.{take-all}
 use Rattle.laws.specs.Idioms.{numberIn, part}
 use Rattle.rules.specs.File.{sumOf, runningSum}
 use Rattle.lanes.specs.Sums.{sumsOf}
 use Rattle.lanes.specs.Lanes.{evensOf, addedOf, weighedOf, early, sumsIn}
-use Rattle.word_sums.proofs.Running.{part-joined}
-use Rattle.word_sums.proofs.Lanes.{Split, none, plus, fits, plus-out, evens-at, odds-at, sums-at}
+use Rattle.lanes.proofs.Running.{part-joined}
+use Rattle.lanes.proofs.Lanes.{Split, none, plus, fits, plus-out, evens-at, odds-at, sums-at}
 
 -- e and o hold the sums of the first k words' even and odd bytes by their places, re and ro the running sums of those
 pub record Held (s : List ℕ) (k e o re ro : ℕ) : Type 0 where
