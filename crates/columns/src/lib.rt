@@ -1,8 +1,8 @@
 // The judgement of one task of an accepted table, and of all: its figures go into lent columns.
 ghost use mathlib.Core.Path.{_≡_};
 ghost use mathlib.Core.Bool.{true};
-ghost use Prim.Native.Nat.{_≤_};
-ghost use lib.ListN.{length};
+ghost use Prim.Native.Nat.{_≤_, _<_};
+ghost use lib.ListN.{length, getD};
 ghost use Rattle.laws.specs.Idioms.{Within};
 ghost use Rattle.facts.specs.Sound.{Sound};
 ghost use Rattle.rules.specs.Tasks as Tasks;
@@ -11,7 +11,8 @@ ghost use Rattle.rules.specs.Chain.{isAccepted};
 ghost use Rattle.rules.specs.Refusals.{checkJudged};
 ghost use Rattle.rules.specs.Operations.{judgeAll};
 ghost use Rattle.prices.specs.Costs.{pricedOf};
-ghost use Rattle.rounds.specs.Lent.{lentOf};
+ghost use Rattle.climb.specs.Run.{climbed};
+ghost use Rattle.rounds.specs.Lent.{Lent, lentOf, termsAt, Judgeable};
 ghost use Rattle.columns.specs.Numbered.{climbedFor};
 ghost use Rattle.columns.specs.Held.{Held};
 use climb::Climbed;
@@ -57,6 +58,45 @@ fn laid(
     board
 }
 
+// The task in place i of lent columns, from a start that is not late.
+fn judge_at(
+    board: Priced,
+    i: usize,
+    start: u64,
+    core: &[u8; 32],
+    latest: &[u64; 32],
+    from: &[usize; 9],
+    spans: &[u64; 33],
+    costs: &[u64; 33],
+    asks: &[u64; 33],
+) -> Climbed
+    ghost { Lent }
+    requires { λ l. ⌜ lentOf board (now core) (now latest) (now from) (now spans) (now costs) (now asks) ≡ l ⌝ }
+    requires { λ l. ⌜ Judgeable l ⌝ }
+    requires { λ l. ⌜ (i < l .board .tasks) × (start ≤ getD (l .latest) i 0) ⌝ }
+    ensures { λ l r. ⌜ r ≡ climbed (termsAt l i) start ⌝ }
+{
+    let mut invs = [0u64; 33];
+    releases::inverses(board.tasks, spans, &mut invs);
+    let p = (core[i] as usize) - 1;
+    let place = standing::place(i, from[p], core);
+    let cost = board.costs[p];
+    let doubled = floors::doubled(board.cores, from, asks);
+    let own = own::own_of(
+        board.cores,
+        cost,
+        p,
+        i,
+        place,
+        latest,
+        from,
+        &doubled,
+        costs,
+        asks,
+    );
+    climb::settle(own, from, spans, &invs, costs, asks, start)
+}
+
 // Task number k of an accepted table, from a start that is not late.
 pub fn judge_task(table: Table, k: u8, start: u64) -> Climbed
     requires { ⌜ Sound table ⌝ }
@@ -79,7 +119,7 @@ pub fn judge_task(table: Table, k: u8, start: u64) -> Climbed
         &mut asks,
     );
     let i = (k as usize) - 1;
-    single::judge_at(
+    judge_at(
         board,
         i,
         start,

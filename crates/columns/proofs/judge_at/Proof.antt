@@ -7,8 +7,8 @@ use Rattle.laws.specs.Idioms.{Within}
 use Rattle.releases.proofs.Quotients.{small-none}
 use Rattle.rounds.specs.Lent.{Lent, lentOf, placeAt, ownAt, Judgeable}
 use Rattle.rounds.proofs.Here.{fits-at, own-at, here-ready, here-climbed}
-use Rattle.single.proofs.judge_at.Statement.{statement}
-use Rattle.single.proofs.judge_at.Tie as tie
+use Rattle.columns.proofs.judge_at.Statement.{statement}
+use Rattle.columns.proofs.judge_at.Tie as tie
 
 -- what is lent, and the task in it
 module _ (s : tie.Start) where
