@@ -28,12 +28,8 @@ mkdir -p "$out"
 if [ -n "${COMPARE_LIB_DIR:-}" ]; then
     lib=$COMPARE_LIB_DIR/libcapi.a linked=yes
 else
+    quietly rt staticlib capi
     lib=$PWD/target/staticlib/libcapi.a linked=no
-    if [ "$(uname -m)" = x86_64 ]; then
-        quietly rt staticlib capi
-        linked=yes
-    elif ! compare/native >/dev/null 2>&1; then # which makes that archive too, and tests/example's, of one proof
-        quietly rt staticlib capi
-    fi
+    [ "$(uname -m)" = x86_64 ] && linked=yes
 fi
 (cd compare && quietly cargo build --release --offline)

@@ -7,10 +7,8 @@ import itertools, json, sys
 
 FIGURES = "tCK tRP tRCD CL WL BL tWTR tWR tRRD tFAW tRAS tRTP tRTRS Ncols Ncap".split()
 ROWS = {"DDR3-1333": dict(zip(FIGURES, [1500, 9, 9, 9, 7, 8, 5, 10, 4, 20, 24, 5, 2, 1024, 65535]))}
-# a task's figures in the file's order, each with its number of bytes; and its jitter, which it may have
+# a task's figures in the file's order, each with its number of bytes
 TASK = {"core": 1, "C": 8, "T": 8, "D": 8, "H": 4}
-JITTER = {"J": 8}
-JITTER_BIT = 4  # of the fourth byte: the records have J
 
 
 class Wrong(Exception):
@@ -85,18 +83,12 @@ def table_file(description):
     entries("the description", description, ["partitions", "sets", "tasks"], ["timing", "bus", "about", "fourth"])
     timing, kind = figures(description)
     sets, tasks = listed("sets", description["sets"]), listed("tasks", description["tasks"])
-    for k, task in enumerate(tasks, 1):
-        entries(f"task {k}", task, TASK, ["name", *JITTER])
-    late = [k for k, task in enumerate(tasks, 1) if "J" in task]
-    fourth = description.get("fourth", kind | JITTER_BIT if late else kind)
     body = number("the number of cores", len(sets), 1) + number("partitions", description["partitions"], 1)
-    body += number("the number of tasks", len(tasks), 1) + number("fourth", fourth, 1)
+    body += number("the number of tasks", len(tasks), 1) + number("fourth", description.get("fourth", kind), 1)
     body += timing + b"".join(mask(f"core {q}'s set", partitions) for q, partitions in enumerate(sets, 1))
-    if late and not fourth & JITTER_BIT:
-        raise Wrong(f"task {late[0]} has J, which means nothing without bit 2 of fourth")
-    record = {**TASK, **JITTER} if fourth & JITTER_BIT else TASK
     for k, task in enumerate(tasks, 1):
-        body += b"".join(number(f"task {k}'s {name}", {"J": 0, **task}[name], size) for name, size in record.items())
+        entries(f"task {k}", task, TASK, ["name"])
+        body += b"".join(number(f"task {k}'s {name}", task[name], size) for name, size in TASK.items())
     return sealed(body)
 
 

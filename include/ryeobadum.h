@@ -1,7 +1,7 @@
 /*
  * Response-time bounds under memory interference: reads a table file of tasks, cores, bank partitions and the timing of a DRAM
  * or of a bus, and says for each task whether it meets its deadline. docs/RULES.md has the rules: what a figure means, how a bound
- * is found (F, C, T, D, H and J below are its letters), the file byte by byte, and each refusal.
+ * is found (F, C, T, D and H below are its letters), the file byte by byte, and each refusal.
  *
  * No function keeps state, allocates memory or calls the system; each returns for every input. A buffer is a pointer and a
  * count of its elements, not of bytes; where the count is 0 the pointer isn't followed and may be NULL. A buffer that is
@@ -33,27 +33,23 @@ extern "C" {
 #define RYB_STOPPED(salvaged) ((salvaged) / 4294967296 % 256)
 #define RYB_LENGTH(salvaged) ((salvaged) / 1099511627776)
 
-/* Where ryb_record's record starts in the file, and how many bytes it has. */
-#define RYB_OFFSET(record) ((record) % 65536)
-#define RYB_SIZE(record) ((record) / 65536)
-
 /* The numbers, in the order in which they are looked for. */
 enum {
     RYB_SHORT_FILE = 1,    /* the file has under 46 bytes */
-    RYB_BAD_LENGTH = 2,    /* the length isn't 46 + 2 * cores + 29 * tasks by the header's counts, or 37 * tasks where byte four has bit 2 */
+    RYB_BAD_LENGTH = 2,    /* the length isn't 46 + 2 * cores + 29 * tasks by the header's counts */
     RYB_BAD_TRAILER = 3,   /* the trailer's first number isn't the length less 12 */
     RYB_BAD_SUM = 4,       /* either sum of the trailer is wrong */
-    RYB_BAD_COUNT = 5,     /* a count is outside its limits (cores 1..8, partitions 1..16, tasks 1..32), or byte four isn't 0 to 7 */
+    RYB_BAD_COUNT = 5,     /* a count is outside its limits (cores 1..8, partitions 1..16, tasks 1..32), or byte four isn't 0 to 3 */
     RYB_BAD_FIGURE = 6,    /* in a DRAM table a timing figure is outside its range */
     RYB_BAD_RELATION = 7,  /* in a DRAM table a relation between timing figures is broken */
-    RYB_BAD_BUS = 16,      /* in a bus table (byte four has bit 0) the first timing figure is 0, or another isn't */
+    RYB_BAD_BUS = 16,      /* in a bus table (byte four is 1 or 3) the first timing figure is 0, or another isn't */
     RYB_BAD_SET = 8,       /* a core's set is empty or names a partition above the count */
     RYB_BAD_CORE = 9,      /* a task's core isn't 1..cores */
-    RYB_BAD_TIME = 10,     /* a task's T, D, J or C is outside its limits (10^8 <= T <= 10^12, 1 <= D <= T, 0 <= J < D, 1 <= C <= D - J) */
+    RYB_BAD_TIME = 10,     /* a task's T, D or C is outside its limits (10^8 <= T <= 10^12, 1 <= D <= T, 1 <= C <= D) */
     RYB_BAD_REQUESTS = 11, /* a task's H is above 1,000,000 */
-    RYB_SALVAGED = 18,     /* a salvaged table (byte four has bit 1) is to be judged */
+    RYB_SALVAGED = 18,     /* a salvaged table (byte four is 2 or 3) is to be judged */
     RYB_NO_TASK = 12,      /* the task asked for isn't 1..tasks */
-    RYB_LATE_START = 13,   /* a given start is above the task's D - J */
+    RYB_LATE_START = 13,   /* a given start is above the task's D */
     RYB_HIGH_START = 14,   /* F(s) < s, where s is the larger of C and the given start, and F(s) what a round makes of s */
     RYB_NO_ROOM = 15,      /* the output is shorter than the new file */
     RYB_NONE_WHOLE = 17,   /* to be salvaged: the file ends before its sets do, or no record of it is kept */
@@ -80,10 +76,11 @@ enum {
  */
 #define RYB_MAX_TASKS 32     /* the most tasks of an accepted file */
 #define RYB_MAX_CORES 8      /* the most cores */
-#define RYB_MAX_FILE 9991    /* no input of more bytes is accepted */
-#define RYB_MAX_NEW 1246     /* no new file of ryb_salvage has more */
+#define RYB_MAX_FILE 7951    /* no input of more bytes is accepted */
+#define RYB_MAX_NEW 990      /* no new file of ryb_salvage has more */
 #define RYB_MAX_LISTING 3266 /* no listing is longer */
 #define RYB_MAX_REASON 66    /* no text of ryb_reason is longer */
+#define RYB_RECORD 29        /* the bytes of a task's record */
 
 /*
  * Reads the table file in file[0..n).
@@ -114,12 +111,12 @@ size_t ryb_tasks(const uint8_t *file, size_t n);
  * starts[k] is where the rounds of task k + 1 begin, in picoseconds: 0 for a fresh judgement, or a bound that an earlier judgement
  * gave. Tasks beyond starts_n begin at 0; starts beyond the tasks are ignored. A start is sound where it is the task's bound in an
  * older table (0 where it missed there) and the newer table is alike in everything, that is the counts, the fourth byte, the timing
- * figures, the sets, and each task's core, deadline and jitter, but that C and H may be raised and T shortened. From sound starts the
+ * figures, the sets, and each task's core and deadline, but that C and H may be raised and T shortened. From sound starts the
  * verdicts and bounds are those of a fresh judgement, found in no more rounds. From any start that isn't refused, a task that holds
  * also holds from 0, with a bound no later: a start that isn't sound can only err to the safe side.
  *
  * Returns 0 where all tasks are judged. Then, for each task k + 1,
- *   bounds[k]  is the bound in picoseconds, the least solution at or above the start and up to D - J, or 0 where the task misses;
+ *   bounds[k]  is the bound in picoseconds, the least solution at or above the start and up to D, or 0 where the task misses;
  *   rounds[k]  is how many rounds that took, also for a miss;
  *   by[k]      is RYB_MISSES, RYB_HOLDS_BY_REQUEST or RYB_HOLDS_BY_JOB.
  * Places beyond the tasks keep what they held.
@@ -153,11 +150,10 @@ uint16_t ryb_view(const uint8_t *file, size_t n, uint8_t task);
 /*
  * Finds the record of a task (counted from 1) in the table file in file[0..n).
  *
- * Returns r, where the record is the RYB_SIZE(r) bytes from file[RYB_OFFSET(r)] on: core 1, C 8, T 8, D 8, H 4, and in a table with
- * jitter (byte four has bit 2) J 8, little-endian. So the size is 29 or 37. Returns 0, which is what no record has, where ryb_view
- * refuses it. Writes nothing.
+ * Returns the offset r of its bytes file[r..r + RYB_RECORD): core 1, C 8, T 8, D 8, H 4, little-endian. Returns 0, which is the
+ * offset of no record, where ryb_view refuses it. Writes nothing.
  */
-uint32_t ryb_record(const uint8_t *file, size_t n, uint8_t task);
+size_t ryb_record(const uint8_t *file, size_t n, uint8_t task);
 
 /*
  * Reads two table files and judges each task of the newer one after the older one: where ryb_worsens says 1, each task begins

@@ -47,10 +47,10 @@ pub fn view(bytes: &[u8], number: u8) -> u16 {
     code(file::view(bytes, number).map(|_| ()))
 }
 
-/// `ryb_record`: where the record starts, and 65536 times its size.
-pub fn record(bytes: &[u8], number: u8) -> u32 {
+/// `ryb_record`.
+pub fn record(bytes: &[u8], number: u8) -> usize {
     match file::view(bytes, number) {
-        Ok(part) => (record_at(usize::from(bytes[0]), usize::from(number), bytes[3]) + 65536 * part.len()) as u32,
+        Ok(_) => record_at(usize::from(bytes[0]), usize::from(number)),
         Err(_) => 0,
     }
 }

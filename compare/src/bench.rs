@@ -170,7 +170,7 @@ fn prepared(load: &'static str, file: Vec<u8>, raised: Vec<u8>) -> Subject {
 /// The first task runs a little longer, the last one makes a request more.
 fn raise(mut draft: Draft) -> Draft {
     let first = &mut draft.tasks[0];
-    first.c = (first.c + first.c / 200).min(first.latest());
+    first.c = (first.c + first.c / 200).min(first.d);
     if let Some(last) = draft.tasks.last_mut() {
         last.h = (last.h + 1).min(1_000_000);
     }

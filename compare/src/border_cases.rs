@@ -7,7 +7,7 @@ use compare_model::file;
 use compare_model::gen::{self, Draft, Rng};
 use compare_model::judge::{Judge, Verdict};
 use compare_model::stops::Parts;
-use compare_model::table::{Table, Task, H_HIGHEST, JITTER_BIT, TASKS, T_LOWEST};
+use compare_model::table::{Table, Task, H_HIGHEST, TASKS, T_LOWEST};
 
 use crate::comparer::{Comparer, Difference, Reaches};
 
@@ -33,19 +33,18 @@ pub fn all(on: &mut Comparer, rng: &mut Rng) -> Outcome {
     Ok(())
 }
 
-/// Cores apart, or on a bus, of which each other one sends so many requests that they cost a whole number of task 1's, again and again in its time,
-/// with J and without.
+/// Cores apart, or on a bus, of which each other one sends so many requests that they cost a whole number of task 1's, again and again in its time.
 fn even(rng: &mut Rng) -> Draft {
     let cores = rng.between(3, 8);
     let own = rng.between(1, cores);
     let t = 1000 * T_LOWEST;
-    let mut tasks = vec![Task { core: own as u8, c: rng.between(1, 9 * T_LOWEST), t, d: t, h: 0, j: 0 }];
+    let mut tasks = vec![Task { core: own as u8, c: rng.between(1, 9 * T_LOWEST), t, d: t, h: 0 }];
     for core in (1..=cores).filter(|&core| core != own) {
         let (t, h) = (rng.between(T_LOWEST, 3 * T_LOWEST), (cores - 1) * rng.between(0, 9));
-        tasks.push(Task { core: core as u8, c: 1, t, d: t, h: h as u32, j: rng.pick(&[0, 1, t / 2, t - 1]) });
+        tasks.push(Task { core: core as u8, c: 1, t, d: t, h: h as u32 });
     }
     let sets = (0..cores).map(|core| 1 << core).collect();
-    let draft = Draft { partitions: cores as u8, fourth: JITTER_BIT, timing: DDR3_1333, sets, tasks };
+    let draft = Draft { partitions: cores as u8, fourth: 0, timing: DDR3_1333, sets, tasks };
     if rng.once_in(2) {
         draft.on_bus(rng.between(1, 40_000) as u16)
     } else {

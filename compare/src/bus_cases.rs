@@ -24,14 +24,14 @@ pub fn all(on: &mut Comparer, rng: &mut Rng) -> Outcome {
     examples(on)
 }
 
-/// Every fourth byte, on a table that is right in all else with bit 0 not set, and on one that is with it set. Its records have the size that the byte says.
+/// Every fourth byte, on a table that is right in all else with 0 or 2, and on one that is with 1 or 3.
 fn fourth_bytes(on: &mut Comparer) -> Outcome {
     let dram = plain(2, 2, 3);
     let bus = dram.on_bus(TURN);
     for fourth in 0..=u8::MAX {
         let (of_dram, of_bus) = match fourth {
-            0 | 2 | 4 | 6 => (0, 6 + 256),
-            1 | 3 | 5 | 7 => (16 + 2 * 256, 0),
+            0 | 2 => (0, 6 + 256),
+            1 | 3 => (16 + 2 * 256, 0),
             _ => (5, 5),
         };
         expect(on, &Draft { fourth, ..dram.clone() }.file(), of_dram)?;
@@ -84,7 +84,7 @@ fn order(on: &mut Comparer) -> Outcome {
         draft.timing[6] = 5;
         expect(on, &draft.file(), 16 + 7 * 256)?;
         expect(on, &draft.salvaged().file(), 16 + 7 * 256)?;
-        draft.fourth = 9;
+        draft.fourth = 5;
         expect(on, &draft.file(), 5)?;
     }
     Ok(())
@@ -113,7 +113,7 @@ fn sets_have_no_part(on: &mut Comparer, rng: &mut Rng) -> Outcome {
 }
 
 /// Every call on both. What each of them answers agrees with the own reading, which lists them alike.
-pub fn alike(on: &mut Comparer, one: &Draft, other: &Draft) -> Outcome {
+fn alike(on: &mut Comparer, one: &Draft, other: &Draft) -> Outcome {
     let (one, other) = (one.file(), other.file());
     assert_eq!(listing(&one), listing(&other), "the pair isn't what it is meant to be");
     calls(on, &one)?;

@@ -14,7 +14,7 @@ pub fn worsens(older: &Table, newer: &Table) -> bool {
 }
 
 fn worse(was: &Task, is: &Task) -> bool {
-    (was.core, was.d, was.j) == (is.core, is.d, is.j) && was.c <= is.c && was.h <= is.h && was.t >= is.t
+    (was.core, was.d) == (is.core, is.d) && was.c <= is.c && was.h <= is.h && was.t >= is.t
 }
 
 /// RULES 6.5: the newer table's answers, from the older bounds if it is the older one worsened, else fresh. Neither is salvaged.

@@ -5,12 +5,11 @@ use compare_model::file::{self, file_length, LONGEST, LONGEST_BY_HEADER, SHORTES
 use compare_model::gen::{self, Draft, Rng};
 use compare_model::judge::{Answer, Judge};
 use compare_model::listing::listing;
-use compare_model::table::{Table, Task, CORES, FIGURES, JITTER_BIT, PARTITIONS, TASKS, T_HIGHEST, T_LOWEST};
+use compare_model::table::{Table, Task, CORES, FIGURES, PARTITIONS, TASKS, T_HIGHEST, T_LOWEST};
 
 use crate::border_cases;
 use crate::bus_cases;
 use crate::comparer::{Comparer, Difference, Reaches};
-use crate::jitter_cases;
 use crate::pairs;
 use crate::run_cases;
 use crate::salvage_cases;
@@ -43,7 +42,6 @@ pub fn all(on: &mut Comparer, seed: u64, count: u64) -> Outcome {
     sums(on)?;
     examples(on)?;
     bus_cases::all(on, &mut rng)?;
-    jitter_cases::all(on, &mut Rng::new(seed))?;
     wide_totals(on, &mut rng)?;
     border_cases::all(on, &mut rng)?;
     run_cases::all(on, &mut Rng::new(seed))?;
@@ -85,22 +83,16 @@ pub fn view(on: &mut Comparer, file: &[u8], number: u8) -> Outcome {
 
 /// Files of one byte, from none to past the longest, whose header asks for their length or not.
 fn lengths(on: &mut Comparer) -> Outcome {
-    let without_jitter = file_length(255, 255, 0);
-    let longest = [without_jitter, LONGEST_BY_HEADER].into_iter().flat_map(|length| length - 2..=length + 2);
-    for length in (0..=LONGEST + 60).chain(longest).chain([10_000, 65_000]) {
-        for byte in [0, 1, 5, 251, 255] {
+    for length in (0..=LONGEST + 60).chain(LONGEST_BY_HEADER - 2..=LONGEST_BY_HEADER + 2).chain([10_000, 65_000]) {
+        for byte in [0, 1, 255] {
             on.read(&vec![byte; length])?;
         }
     }
     for (cores, tasks) in [(0, 0), (0, 1), (1, 0), (255, 0), (0, 255), (255, 255), (9, 1), (1, 33)] {
-        for (partitions, fourth) in
-            [0, 1, 16, 17].into_iter().flat_map(|partitions| [0, JITTER_BIT].map(|fourth| (partitions, fourth)))
-        {
-            let mut file = vec![0; file_length(cores, tasks, fourth)];
-            file[..4].copy_from_slice(&[cores as u8, partitions, tasks as u8, fourth]);
+        for partitions in [0, 1, 16, 17] {
+            let mut file = vec![0; file_length(cores, tasks)];
+            file[..3].copy_from_slice(&[cores as u8, partitions, tasks as u8]);
             file::seal(&mut file);
-            calls(on, &file)?;
-            file[3] ^= JITTER_BIT;
             calls(on, &file)?;
         }
     }
@@ -115,7 +107,6 @@ pub fn plain(cores: usize, partitions: u8, tasks: usize) -> Draft {
         t: 10_000_000_000,
         d: 9_000_000_000,
         h: 10,
-        j: 0,
     };
     Draft { partitions, fourth: 0, timing: DDR3_1333, sets: vec![1; cores], tasks: (0..tasks).map(task).collect() }
 }
@@ -125,9 +116,7 @@ fn counts(on: &mut Comparer) -> Outcome {
     for cores in [0, 1, CORES, CORES + 1, 255] {
         for tasks in [0, 1, TASKS, TASKS + 1, 255] {
             for partitions in [0, 1, PARTITIONS as u8, PARTITIONS as u8 + 1, 255] {
-                let draft = plain(cores, partitions, tasks);
-                calls(on, &draft.file())?;
-                calls(on, &draft.with_jitter(&[]).file())?;
+                calls(on, &plain(cores, partitions, tasks).file())?;
             }
         }
     }
@@ -258,7 +247,7 @@ fn task_limits(on: &mut Comparer) -> Outcome {
 }
 
 fn edge_tasks(cores: u8) -> Vec<Task> {
-    let sound = Task { core: 1, c: 5, t: T_LOWEST, d: T_LOWEST, h: 1, j: 0 };
+    let sound = Task { core: 1, c: 5, t: T_LOWEST, d: T_LOWEST, h: 1 };
     let mut tasks = Vec::new();
     tasks.extend([0, 1, cores, cores + 1, 9, 128, 255].map(|core| Task { core, ..sound }));
     tasks.extend([0, 1, 1_000_000, 1_000_001, 1 << 24, u32::MAX].map(|h| Task { h, ..sound }));
@@ -307,22 +296,19 @@ fn sums(on: &mut Comparer) -> Outcome {
     file::seal(&mut full);
     expect(on, &full, 4)?;
     let fits = u64::from(u32::MAX);
-    for fourth in [0, JITTER_BIT] {
-        for (running, code) in
-            [(fits - 1, 5), (fits, 5), (fits + 1, 4), (fits + 2, 4), (fits + 256, 4), (8_000_000_000, 4)]
-        {
-            expect(on, &file_with_running_sum(fourth, running), code)?;
-        }
+    for (running, code) in [(fits - 1, 5), (fits, 5), (fits + 1, 4), (fits + 2, 4), (fits + 256, 4), (8_000_000_000, 4)]
+    {
+        expect(on, &file_with_running_sum(running), code)?;
     }
     Ok(())
 }
 
-/// The longest file that a header with this fourth byte can ask for, with this sum of running sums.
-fn file_with_running_sum(fourth: u8, running: u64) -> Vec<u8> {
-    let length = file_length(255, 255, fourth);
-    let mut file = vec![0; length];
-    file[..4].copy_from_slice(&[255, 0, 255, fourth]);
-    let body = length - TRAILER;
+/// The longest file that a header can ask for, with this sum of running sums.
+fn file_with_running_sum(running: u64) -> Vec<u8> {
+    let mut file = vec![0; LONGEST_BY_HEADER];
+    file[0] = 255;
+    file[2] = 255;
+    let body = LONGEST_BY_HEADER - TRAILER;
     let (_, header) = file::sums(&file[..body]);
     let mut left = running - header;
     for (at, byte) in file[..body].iter_mut().enumerate().skip(4) {
@@ -340,7 +326,7 @@ const MS: u64 = 1_000_000_000;
 
 /// A task with its deadline at the end of its period.
 fn task(core: u8, c: u64, t: u64, h: u32) -> Task {
-    Task { core, c, t, d: t, h, j: 0 }
+    Task { core, c, t, d: t, h }
 }
 
 /// The listed table (RULES 11.4).
@@ -411,14 +397,8 @@ fn wide_totals(on: &mut Comparer, rng: &mut Rng) -> Outcome {
 /// One random table, whole and in some ways damaged.
 fn random(on: &mut Comparer, rng: &mut Rng, case: u64) -> Outcome {
     let heavy = |rng: &mut Rng| gen::measured(rng, 4 + case as usize % 29, 2 + case as usize % 7, true);
-    let heavy_with_jitter = |rng: &mut Rng| {
-        let draft = heavy(rng);
-        gen::jittered(rng, &draft)
-    };
     let draft = match case % 16 {
-        3 => heavy_with_jitter(rng),
         7 => heavy(rng),
-        11 => heavy_with_jitter(rng).on_bus(37_500),
         15 => heavy(rng).on_bus(37_500),
         _ => gen::draft(rng),
     };
@@ -434,7 +414,6 @@ fn random(on: &mut Comparer, rng: &mut Rng, case: u64) -> Outcome {
     let faulty = faulty(rng, &draft);
     pairs::random(on, rng, &draft, &faulty)?;
     salvage_cases::random(on, &mut rng.clone(), &draft)?;
-    jitter_cases::random(on, &mut rng.clone(), &draft)?;
     match case % 16 {
         0 => cuts(on, &file),
         1 => records(on, &file),
@@ -527,7 +506,7 @@ fn break_one(rng: &mut Rng, draft: &mut Draft) {
     let task = rng.index(draft.tasks.len());
     let cores = draft.sets.len() as u8;
     let task = &mut draft.tasks[task];
-    match rng.index(18) {
+    match rng.index(16) {
         0 => draft.fourth = rng.word() as u8,
         1 => draft.partitions = rng.pick(&[0, 1, 17, 255]),
         2 => draft.timing[rng.index(FIGURES)] = rng.word() as u16,
@@ -543,16 +522,6 @@ fn break_one(rng: &mut Rng, draft: &mut Draft) {
         12 => draft.sets.resize(CORES + 1, 1),
         13 => draft.fourth ^= 1,
         14 => draft.fourth |= 1 << rng.between(1, 7),
-        15 | 16 => {
-            task.j = rng.pick(&[
-                task.d,
-                task.d.wrapping_add(1),
-                task.d.wrapping_sub(task.c).wrapping_add(1),
-                1 << 63,
-                u64::MAX,
-            ]);
-            draft.fourth |= JITTER_BIT;
-        }
         _ => {
             let again = *task;
             draft.tasks.resize(TASKS + 1, again);

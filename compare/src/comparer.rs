@@ -3,12 +3,10 @@
 use std::collections::BTreeMap;
 use std::fmt;
 use std::io;
-use std::ops::Range;
 
 use compare_model::answers;
-use compare_model::file;
 use compare_model::gen::Rng;
-use compare_model::table::{Kind, Task, JITTER_BIT, SALVAGED_BIT};
+use compare_model::table::{Kind, SALVAGED_BIT};
 
 use crate::library::{Lent, Library};
 
@@ -64,18 +62,6 @@ pub struct Verdicts {
     pub misses: u64,
 }
 
-impl Verdicts {
-    fn add(&mut self, by: &[u8]) {
-        for by in by {
-            match by {
-                0 => self.misses += 1,
-                1 => self.by_request += 1,
-                _ => self.by_job += 1,
-            }
-        }
-    }
-}
-
 /// What became of the files that were to be salvaged.
 #[derive(Clone, Debug, Default)]
 pub struct Salvages {
@@ -92,21 +78,6 @@ pub struct Salvages {
     pub unjudged: u64,
 }
 
-/// What was met of tables with jitter.
-#[derive(Clone, Debug, Default)]
-pub struct Jitters {
-    /// Of tasks of tables with a J that isn't 0.
-    pub verdicts: Verdicts,
-    /// Files that are refused by 10, and would not be without the J of the task at fault.
-    pub refused: u64,
-    /// Records of 37 bytes that were found.
-    pub records: u64,
-    /// Tasks whose bound or verdict is another without the J of the higher tasks, without those of tasks on other cores, and without their own.
-    pub by_higher: u64,
-    pub by_others: u64,
-    pub by_own: u64,
-}
-
 /// What was met, to show that the cases reach what they should.
 #[derive(Clone, Debug, Default)]
 pub struct Tally {
@@ -116,7 +87,6 @@ pub struct Tally {
     pub refused: BTreeMap<u16, u64>,
     pub dram: Verdicts,
     pub bus: Verdicts,
-    pub jitter: Jitters,
     pub most_rounds: u64,
     pub records: u64,
     pub listings: u64,
@@ -189,7 +159,6 @@ impl Comparer {
         let own = answers::read(file);
         let theirs = self.library.read(file);
         self.count(own);
-        self.tally.jitter.refused += u64::from(refused_by_jitter(file, own));
         let read = same(theirs, own, file, || "ryb_read".to_owned())?;
         let whole = self.whole(file)?;
         self.tally.only_whole += u64::from(whole == 0 && read != 0);
@@ -272,15 +241,13 @@ impl Comparer {
         same(theirs, own, file, || format!("ryb_view of task {number}"))
     }
 
-    /// `ryb_record`; answers where the record stands, nowhere where refused.
-    pub fn record(&mut self, file: &[u8], number: u8) -> Result<Range<usize>, Difference> {
+    /// `ryb_record`; answers the offset, 0 where refused.
+    pub fn record(&mut self, file: &[u8], number: u8) -> Result<usize, Difference> {
         let own = answers::record(file, number);
         let theirs = self.library.record(file, number);
         self.tally.calls += 1;
         self.tally.records += u64::from(own > 0);
-        self.tally.jitter.records += u64::from(own > 0 && file[3] & JITTER_BIT != 0);
-        let record = same(theirs, own, file, || format!("ryb_record of task {number}"))? as usize;
-        Ok(record % 65536..record % 65536 + record / 65536)
+        same(theirs, own, file, || format!("ryb_record of task {number}"))
     }
 
     /// `ryb_carry`; answers the refusal with the file that it is about, 0 where accepted.
@@ -424,20 +391,16 @@ impl Comparer {
             Kind::Dram => &mut self.tally.dram,
             Kind::Bus => &mut self.tally.bus,
         };
-        verdicts.add(&judged.by[..tasks]);
-        if file::records(file).any(|record| file::read_record(record).j != 0) {
-            self.tally.jitter.verdicts.add(&judged.by[..tasks]);
+        for &by in &judged.by[..tasks] {
+            match by {
+                0 => verdicts.misses += 1,
+                1 => verdicts.by_request += 1,
+                _ => verdicts.by_job += 1,
+            }
         }
         let most = judged.rounds[..tasks].iter().copied().max().unwrap_or(0);
         self.tally.most_rounds = self.tally.most_rounds.max(most);
     }
-}
-
-/// Is a whole file that is refused so refused by the J of the task at fault, and by nothing else of its times?
-fn refused_by_jitter(file: &[u8], code: u16) -> bool {
-    let [number, place] = code.to_le_bytes();
-    let at_fault = || file::records(file).map(file::read_record).nth(usize::from(place) - 1);
-    number == 10 && at_fault().is_some_and(|task| task.j != 0 && Task { j: 0, ..task }.times_pass())
 }
 
 fn hexadecimal(bytes: &[u8]) -> String {

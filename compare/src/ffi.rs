@@ -24,7 +24,7 @@ extern "C" {
     ) -> u16;
     fn ryb_list(file: *const u8, n: usize, out: *mut u8, out_n: usize) -> usize;
     fn ryb_view(file: *const u8, n: usize, task: u8) -> u16;
-    fn ryb_record(file: *const u8, n: usize, task: u8) -> u32;
+    fn ryb_record(file: *const u8, n: usize, task: u8) -> usize;
     fn ryb_carry(
         older: *const u8,
         older_n: usize,
@@ -95,7 +95,7 @@ impl Library for Linked {
         Ok(unsafe { ryb_view(start(file), file.len(), number) })
     }
 
-    fn record(&mut self, file: &[u8], number: u8) -> io::Result<u32> {
+    fn record(&mut self, file: &[u8], number: u8) -> io::Result<usize> {
         // SAFETY: the pointer and the length are those of a slice.
         Ok(unsafe { ryb_record(start(file), file.len(), number) })
     }

@@ -4,13 +4,12 @@ use crate::answers;
 use crate::carry;
 use crate::delay::Delays;
 use crate::dram::{Timing, DDR3_1333, NCAP};
-use crate::file::{self, JITTER_RECORD, LONGEST, LONGEST_BY_HEADER, PLAIN_RECORD, SETS_AT, SHORTEST};
-use crate::gen::Draft;
+use crate::file::{self, LONGEST, LONGEST_BY_HEADER, RECORD, SETS_AT, SHORTEST};
 use crate::judge::{Answer, By, Judge, Verdict};
 use crate::listing::listing;
 use crate::refusal::Refusal;
 use crate::salvage::{salvage, Salvaged};
-use crate::table::{Table, Task, CORES, FIGURES, JITTER_BIT, TASKS};
+use crate::table::{Table, Task, CORES, FIGURES};
 
 fn table(partitions: u8, sets: &[u16], tasks: &[Task]) -> Table {
     let mut table =
@@ -21,19 +20,13 @@ fn table(partitions: u8, sets: &[u16], tasks: &[Task]) -> Table {
 }
 
 fn task(core: u8, c: u64, t: u64, h: u32) -> Task {
-    Task { core, c, t, d: t, h, j: 0 }
+    Task { core, c, t, d: t, h }
 }
 
 fn bytes(table: &Table) -> Vec<u8> {
     let mut out = [0; LONGEST];
     let length = file::write(table, &mut out).expect("the table is accepted");
     out[..length].to_vec()
-}
-
-/// The file of a table that may be refused.
-fn unchecked(table: &Table) -> Vec<u8> {
-    let Table { partitions, fourth, timing, .. } = *table;
-    Draft { partitions, fourth, timing, sets: table.sets().to_vec(), tasks: table.tasks().to_vec() }.file()
 }
 
 /// The listed table (RULES 11.4).
@@ -211,7 +204,7 @@ fn sums_are_whole_numbers() {
     let mut file = [0xFF; LONGEST_BY_HEADER];
     file::seal(&mut file);
     assert_eq!(answers::read(&file), 4);
-    file[JITTER_RECORD..].fill(0);
+    file[RECORD..].fill(0);
     file::seal(&mut file);
     assert_eq!(answers::read(&file), 5);
 }
@@ -220,8 +213,8 @@ fn sums_are_whole_numbers() {
 fn records_and_writing() {
     let file = bytes(&listed());
     assert_eq!(
-        [0, 1, 3, 4].map(|number| answers::record(&file, number) as usize),
-        [0, SETS_AT + 4 + 65_536 * 29, SETS_AT + 4 + 2 * 29 + 65_536 * 29, 0]
+        [0, 1, 3, 4].map(|number| answers::record(&file, number)),
+        [0, SETS_AT + 4, SETS_AT + 4 + 2 * RECORD, 0]
     );
     assert_eq!(file::read(&file), Ok(listed()));
     let mut short = vec![0xA5; file.len() - 1];
@@ -246,7 +239,7 @@ fn whole_or_not() {
     let three = with(&[(39, 1), (40, 200), (41, 155)]);
     assert_eq!(answers::whole(&three), 0);
     assert_eq!(file::read(&three).map(|table| table.task[0].c), Ok(1_000_065_025));
-    let mut many = with(&[(SETS_AT + 4 + 3 * PLAIN_RECORD - 2, 255)]);
+    let mut many = with(&[(SETS_AT + 4 + 3 * RECORD - 2, 255)]);
     assert_eq!([answers::whole(&many), answers::read(&many)], [4, 4]);
     file::seal(&mut many);
     assert_eq!([answers::whole(&many), answers::read(&many)], [0, 11 + 3 * 256]);
@@ -259,7 +252,7 @@ fn a_request_total_beyond_64_bits_is_not_small() {
     table.timing = [5000, 127, 127, 127, 127, 4, 127, 127, 127, 127, 127, 1, 127, 2048, 65535];
     table.task[0] = task(1, 1, 100_000_000, 1_000_000);
     table.task[1] = task(2, 1, 1_000_000_000_000, 1);
-    table.task[2] = task(1, 999_000_000_000, 1_000_000_000_000, 0);
+    table.task[2] = Task { core: 1, c: 999_000_000_000, t: 1_000_000_000_000, d: 1_000_000_000_000, h: 0 };
     assert!(request_delay(&table, 1) * 9_991 * 1_000_000 > u128::from(u64::MAX));
     assert!(matches!(judged(&table, 3, 0), Ok(Answer { verdict: Verdict::Holds { by: By::Job, .. }, .. })));
 }
@@ -344,24 +337,27 @@ fn order_of_refusals_on_a_bus() {
     table.sets[1] = 4;
     assert_eq!(table.check(), Err(Refusal { number: 8, place: 2 }));
     table.timing[14] = 65_535;
-    for (fourth, refusal) in [(1, Refusal::at(16, 14)), (7, Refusal::at(16, 14)), (9, Refusal::plain(5))] {
+    for (fourth, refusal) in [(1, Refusal::at(16, 14)), (3, Refusal::at(16, 14)), (5, Refusal::plain(5))] {
         assert_eq!(Table { fourth, ..table }.check(), Err(refusal));
     }
 }
 
-/// Bits 0 to 2 pass. Without bit 0 a bus's figures are refused as those of a DRAM, and with it a DRAM's as those of a bus. Bits 1 and 2 change neither.
+/// Bits 0 and 1 pass. Without bit 0 a bus's figures are refused as those of a DRAM, and with it a DRAM's as those of a bus. Bit 1 changes neither.
 #[test]
 fn fourth_bytes() {
     for fourth in 0..=u8::MAX {
         let (of_dram, of_bus) = match fourth {
-            0 | 2 | 4 | 6 => (Ok(()), Err(Refusal { number: 6, place: 1 })),
-            1 | 3 | 5 | 7 => (Err(Refusal { number: 16, place: 2 }), Ok(())),
+            0 | 2 => (Ok(()), Err(Refusal { number: 6, place: 1 })),
+            1 | 3 => (Err(Refusal { number: 16, place: 2 }), Ok(())),
             _ => (Err(Refusal::plain(5)), Err(Refusal::plain(5))),
         };
         for (table, expected) in [(listed(), of_dram), (on_bus(&listed(), 37_500), of_bus)] {
+            let mut file = bytes(&table);
+            file[3] = fourth;
+            file::seal(&mut file);
             let table = Table { fourth, ..table };
             assert_eq!(table.check(), expected);
-            assert_eq!(file::read(&unchecked(&table)), expected.map(|()| table));
+            assert_eq!(file::read(&file), expected.map(|()| table));
         }
     }
 }
@@ -435,17 +431,12 @@ fn salvaged_of(file: &[u8]) -> Result<([u8; 3], Vec<u8>), Refusal> {
     Ok(([promised, kept, stopped], out[..length].to_vec()))
 }
 
-/// Where the first three records start.
-fn offsets(file: &[u8]) -> [u32; 3] {
-    [1, 2, 3].map(|number| answers::record(file, number) % 65_536)
-}
-
 /// RULES 11.14.
 #[test]
 fn a_cut_file() {
     let file = bytes(&listed());
     let told = |file: &[u8]| salvaged_of(file).map(|(counts, _)| counts);
-    assert_eq!((file.len(), offsets(&file)), (137, [38, 67, 96]));
+    assert_eq!((file.len(), [1, 2, 3].map(|number| answers::record(&file, number))), (137, [38, 67, 96]));
     let (counts, new) = salvaged_of(&file[..100]).expect("two records are whole");
     assert_eq!((counts, new.len()), ([3, 2, 3], 108));
     assert_eq!((&new[..4], &new[4..96]), (&[2, 2, 2, 2][..], &file[4..96]));
@@ -487,7 +478,7 @@ fn order_of_refusals_of_a_salvage() {
         (4 + 2 * 7, 4, refused(7, 1)),
         (4 + 2 * 2, 0, refused(6, 3)),
         (3, 3, refused(16, 2)),
-        (3, 8, refused(5, 0)),
+        (3, 4, refused(5, 0)),
         (1, 17, refused(5, 0)),
         (0, 9, refused(5, 0)),
     ] {
@@ -497,111 +488,4 @@ fn order_of_refusals_of_a_salvage() {
     }
     assert_eq!([3, 51].map(|length| told(&file, length)), [refused(17, 0); 2]);
     assert_eq!([0, 1, 2, 3].map(|length| told(&[0; 3], length)), [refused(17, 0); 4]);
-}
-
-/// The listed table with a J for each task (RULES 11.15).
-fn jittered(j: [u64; 3]) -> Table {
-    let mut table = Table { fourth: JITTER_BIT, ..listed() };
-    for (task, j) in table.task.iter_mut().zip(j) {
-        task.j = j;
-    }
-    table
-}
-
-/// RULES 11.15. From task 3's start, 9 10^9, on: with J 2 10^9 of task 1 two of its jobs count, as 11 10^9 is past its period; with J 9 10^9 of
-/// task 2 two of its releases count from 11,007,500,000 on, as 20,007,500,000 is past its period, and so (2 + 1) 100 requests at 37,500.
-#[test]
-fn jitter_in_the_equation_and_in_what_cores_send() {
-    assert_eq!(judged(&jittered([2_000_000_000, 0, 0]), 3, 0), holds(11_007_500_000, By::Job, 2));
-    let table = jittered([2_000_000_000, 9_000_000_000, 8_988_750_000]);
-    assert_eq!(listing(&bytes(&table)), LISTING.replace("11007500000", "11011250000"));
-    assert_eq!(table.task[2].latest(), 11_011_250_000);
-    assert_eq!(Judge::new(&table).expect("accepted").most_rounds(2), 5);
-    let one_more = jittered([2_000_000_000, 9_000_000_000, 8_988_750_001]);
-    let text = listing(&bytes(&one_more));
-    assert!(text.ends_with("3 1 misses - - 2\nfirst miss 3\n"), "{text}");
-}
-
-/// RULES 11.15: records of 37 bytes, of which J is the last 8; and the same with the bit and no J.
-#[test]
-fn records_with_jitter() {
-    let file = bytes(&jittered([1, 2, 3]));
-    assert_eq!((file.len(), offsets(&file)), (161, [38, 75, 112]));
-    assert_eq!([1, 2, 3].map(|number| answers::record(&file, number) / 65_536), [37; 3]);
-    let second = file::view(&file, 2).expect("there is one");
-    assert_eq!(second[..29], *file::view(&bytes(&listed()), 2).expect("there is one"));
-    assert_eq!(second[29..], [2, 0, 0, 0, 0, 0, 0, 0]);
-    assert_eq!(file::read(&file), Ok(jittered([1, 2, 3])));
-    assert_eq!(listing(&bytes(&jittered([0; 3]))), LISTING);
-}
-
-/// RULES 2.2, 9.3: C is no more than D - J, J is below D, and 0 without the bit. Of a table with two tasks at fault the first is told.
-#[test]
-fn limits_of_jitter() {
-    let refused = |place| Err(Refusal { number: 10, place });
-    let third = |j| jittered([0, 0, j]).check();
-    assert_eq!([third(11_000_000_000), third(11_000_000_001)], [Ok(()), refused(3)]);
-    assert_eq!([19_999_999_999, 20_000_000_000, 20_000_000_001, u64::MAX].map(third), [refused(3); 4]);
-    assert_eq!(Table { fourth: 0, ..jittered([0, 1, 0]) }.check(), refused(2));
-    assert_eq!(Table { fourth: 2, ..jittered([0, 1, 1]) }.check(), refused(2));
-    assert_eq!(jittered([9_000_000_001, 18_000_000_001, 0]).check(), refused(1));
-    let mut beyond = listed();
-    beyond.task[3].j = 1;
-    assert_eq!(beyond.check(), Ok(()));
-}
-
-/// RULES 11.15: a start is compared with D - J, of one task and of all. From 10^10, which is just that, F gives 10,007,500,000, and so it misses.
-#[test]
-fn starts_with_jitter() {
-    let table = jittered([0, 0, 10_000_000_000]);
-    let late = Refusal { number: 13, place: 3 };
-    assert_eq!(judged(&table, 3, 10_000_000_000), Ok(Answer { verdict: Verdict::Misses, rounds: 1 }));
-    assert_eq!(judged(&table, 3, 10_000_000_001), Err(late));
-    let judge = Judge::new(&table).expect("accepted");
-    assert!(judge.all(&[0, 0, 10_000_000_000]).is_ok());
-    assert_eq!(judge.all(&[0, 0, 10_000_000_001]), Err(late));
-}
-
-/// RULES 6.4: a J that is another, larger or smaller, in any task, keeps a table from being the older one worsened; and so does the bit alone.
-#[test]
-fn jitter_keeps_from_carrying() {
-    let older = jittered([5, 5, 5]);
-    let mut newer = older;
-    newer.task[0].c = 1_100_000_000;
-    assert!(carry::worsens(&older, &newer));
-    assert_eq!(Ok(carry::answers(&older, &newer)[2]), holds(11_207_500_000, By::Job, 2));
-    for at in 0..3 {
-        for j in [0, 4, 6] {
-            let mut other = newer;
-            other.task[at].j = j;
-            assert!(!carry::worsens(&older, &other));
-            assert_eq!(Ok(carry::answers(&older, &other)[2]), holds(11_207_500_000, By::Job, 3));
-        }
-    }
-    assert!(!carry::worsens(&listed(), &jittered([0; 3])) && !carry::worsens(&jittered([0; 3]), &listed()));
-    newer.task[3].j = 6;
-    assert!(carry::worsens(&older, &newer));
-}
-
-/// RULES 11.15: the new file keeps bit 2 and the records' size. Of a record that is cut before its J nothing is kept.
-#[test]
-fn a_cut_file_with_jitter() {
-    let file = bytes(&jittered([1, 2, 3]));
-    let told = |file: &[u8]| salvaged_of(file).map(|(counts, _)| counts);
-    let (counts, new) = salvaged_of(&file[..120]).expect("two records are whole");
-    assert_eq!((counts, new.len()), ([3, 2, 3], 46 + 4 + 2 * 37));
-    assert_eq!((&new[..4], &new[4..112]), (&[2, 2, 2, 6][..], &file[4..112]));
-    assert_eq!([answers::whole(&new), answers::read(&new)], [0, 0]);
-    assert_eq!(listing(&new), "refused 18\n");
-    assert_eq!([74, 67].map(|length| told(&file[..length])), [Err(Refusal::plain(17)); 2]);
-    assert_eq!([75, 111, 149].map(|length| told(&file[..length])), [Ok([3, 1, 2]), Ok([3, 1, 2]), Ok([3, 3, 0])]);
-    let mut at_fault = jittered([1, 2, 3]);
-    at_fault.task[1].j = 18_000_000_001;
-    assert_eq!(told(&unchecked(&at_fault)), Ok([3, 1, 2]));
-}
-
-/// RULES 7.5: the longest file by its counts, and the longest of a table.
-#[test]
-fn longest_files() {
-    assert_eq!([LONGEST_BY_HEADER, LONGEST, file::file_length(CORES, TASKS, 0)], [9_991, 1_246, 990]);
 }

@@ -1,40 +1,27 @@
 //! The table file: reading, writing, the record of a task. Refusals 1 to 4, 12 and 15.
 
 use crate::refusal::Refusal;
-use crate::table::{Table, Task, CORES, FIGURES, JITTER_BIT, TASKS};
+use crate::table::{Table, Task, CORES, FIGURES, TASKS};
 
 pub const HEADER: usize = 4;
 pub const TIMING_AT: usize = HEADER;
 pub const SETS_AT: usize = TIMING_AT + 2 * FIGURES;
-/// The bytes of a record without J.
-pub const PLAIN_RECORD: usize = 29;
-/// The bytes of a record with J, which is its last 8.
-pub const JITTER_RECORD: usize = 37;
+pub const RECORD: usize = 29;
 pub const TRAILER: usize = 12;
 /// A file with no core and no task, which is the shortest that has a trailer.
 pub const SHORTEST: usize = SETS_AT + TRAILER;
 /// The longest file of an accepted table.
-pub const LONGEST: usize = file_length(CORES, TASKS, JITTER_BIT);
+pub const LONGEST: usize = file_length(CORES, TASKS);
 /// The longest file that the header's counts can ask for.
-pub const LONGEST_BY_HEADER: usize = file_length(255, 255, JITTER_BIT);
+pub const LONGEST_BY_HEADER: usize = file_length(255, 255);
 
-/// How many bytes a record has in a file with this fourth byte.
-pub const fn record_size(fourth: u8) -> usize {
-    if fourth & JITTER_BIT == 0 {
-        PLAIN_RECORD
-    } else {
-        JITTER_RECORD
-    }
+pub const fn file_length(cores: usize, tasks: usize) -> usize {
+    SHORTEST + 2 * cores + RECORD * tasks
 }
 
-/// How many bytes a file has with these counts and this fourth byte.
-pub const fn file_length(cores: usize, tasks: usize, fourth: u8) -> usize {
-    SHORTEST + 2 * cores + record_size(fourth) * tasks
-}
-
-/// Where the record of task `number` (from 1) starts in a file with so many cores and this fourth byte.
-pub const fn record_at(cores: usize, number: usize, fourth: u8) -> usize {
-    SETS_AT + 2 * cores + record_size(fourth) * (number - 1)
+/// Where the record of task `number` (from 1) starts.
+pub const fn record_at(cores: usize, number: usize) -> usize {
+    SETS_AT + 2 * cores + RECORD * (number - 1)
 }
 
 /// The table of a file, or the first of refusals 1 to 11 and 16 that applies.
@@ -73,14 +60,14 @@ fn read_figures(bytes: &[u8], figures: &mut [u16]) {
 
 /// The records that the counts promise, as far as the file reaches their ends.
 pub fn records(file: &[u8]) -> impl Iterator<Item = &[u8]> {
-    let [cores, _, tasks, fourth] = part(file, 0);
-    file[record_at(cores.into(), 1, fourth)..].chunks_exact(record_size(fourth)).take(tasks.into())
+    let [cores, _, tasks, _] = part::<HEADER>(file, 0).map(usize::from);
+    file[record_at(cores, 1)..].chunks_exact(RECORD).take(tasks)
 }
 
 /// Writes the file of a table and answers its length. Refuses by 5 to 11, 16 and 15, and then writes nothing.
 pub fn write(table: &Table, out: &mut [u8]) -> Result<usize, Refusal> {
     table.check()?;
-    let length = file_length(table.sets().len(), table.tasks().len(), table.fourth);
+    let length = file_length(table.sets().len(), table.tasks().len());
     let file = out.get_mut(..length).ok_or(Refusal::plain(15))?;
     write_body(table, &mut file[..length - TRAILER]);
     seal(file);
@@ -93,8 +80,8 @@ pub fn view(file: &[u8], number: u8) -> Result<&[u8], Refusal> {
     if !(1..=table.tasks).contains(&number) {
         return Err(Refusal::plain(12));
     }
-    let at = record_at(usize::from(table.cores), usize::from(number), table.fourth);
-    Ok(&file[at..at + record_size(table.fourth)])
+    let at = record_at(usize::from(table.cores), usize::from(number));
+    Ok(&file[at..at + RECORD])
 }
 
 /// Writes the trailer of the bytes before it. Sums that don't fit are cut, and so are wrong.
@@ -111,7 +98,7 @@ pub fn whole(file: &[u8]) -> Result<(), Refusal> {
     if file.len() < SHORTEST {
         return Err(Refusal::plain(1));
     }
-    if file.len() != file_length(usize::from(file[0]), usize::from(file[2]), file[3]) {
+    if file.len() != file_length(usize::from(file[0]), usize::from(file[2])) {
         return Err(Refusal::plain(2));
     }
     let (body, trailer) = file.split_at(file.len() - TRAILER);
@@ -140,34 +127,28 @@ fn write_body(table: &Table, body: &mut [u8]) {
     for (bytes, pair) in head[TIMING_AT..].chunks_exact_mut(2).zip(pairs) {
         bytes.copy_from_slice(&pair.to_le_bytes());
     }
-    for (record, task) in tasks.chunks_exact_mut(record_size(table.fourth)).zip(table.tasks()) {
+    for (record, task) in tasks.chunks_exact_mut(RECORD).zip(table.tasks()) {
         write_record(task, record);
     }
 }
 
-/// The task of a record of either size. Without J it is 0.
 pub fn read_record(record: &[u8]) -> Task {
-    let j = if record.len() == JITTER_RECORD { u64::from_le_bytes(part(record, PLAIN_RECORD)) } else { 0 };
     Task {
         core: record[0],
         c: u64::from_le_bytes(part(record, 1)),
         t: u64::from_le_bytes(part(record, 9)),
         d: u64::from_le_bytes(part(record, 17)),
         h: u32::from_le_bytes(part(record, 25)),
-        j,
     }
 }
 
-/// Writes the bytes of a task, of which a record of 37 has J too.
+/// Writes the 29 bytes of a task.
 pub fn write_record(task: &Task, record: &mut [u8]) {
     record[0] = task.core;
     record[1..9].copy_from_slice(&task.c.to_le_bytes());
     record[9..17].copy_from_slice(&task.t.to_le_bytes());
     record[17..25].copy_from_slice(&task.d.to_le_bytes());
-    record[25..PLAIN_RECORD].copy_from_slice(&task.h.to_le_bytes());
-    if record.len() == JITTER_RECORD {
-        record[PLAIN_RECORD..].copy_from_slice(&task.j.to_le_bytes());
-    }
+    record[25..].copy_from_slice(&task.h.to_le_bytes());
 }
 
 /// The `N` bytes from `at`.

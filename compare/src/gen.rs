@@ -3,9 +3,9 @@
 use crate::bus;
 use crate::delay::Delays;
 use crate::dram::{Timing, BL, DDR3_1333, RANGES};
-use crate::file::{file_length, record_size, seal, write_record, TRAILER};
+use crate::file::{file_length, seal, write_record, RECORD, TRAILER};
 use crate::judge::{Answer, Verdict};
-use crate::table::{Kind, Table, Task, FIGURES, H_HIGHEST, JITTER_BIT, SALVAGED_BIT, T_HIGHEST, T_LOWEST};
+use crate::table::{Kind, Table, Task, FIGURES, H_HIGHEST, SALVAGED_BIT, T_HIGHEST, T_LOWEST};
 
 /// The place of Ncols among the figures, from 0.
 const NCOLS: usize = 13;
@@ -68,25 +68,12 @@ impl Draft {
 
     /// The same with these timing figures of a table of that kind.
     pub fn with_timing(&self, kind: Kind, timing: [u16; FIGURES]) -> Draft {
-        Draft { fourth: kind.put_in(self.fourth), timing, ..self.clone() }
+        Draft { fourth: kind.fourth(), timing, ..self.clone() }
     }
 
     /// The same on a bus whose s is this.
     pub fn on_bus(&self, turn: u16) -> Draft {
         self.with_timing(Kind::Bus, bus::figures(turn))
-    }
-
-    pub fn has_jitter(&self) -> bool {
-        self.fourth & JITTER_BIT != 0
-    }
-
-    /// The same with these J, one a task.
-    pub fn with_jitter(&self, jitter: &[u64]) -> Draft {
-        let mut draft = Draft { fourth: self.fourth | JITTER_BIT, ..self.clone() };
-        for (task, &j) in draft.tasks.iter_mut().zip(jitter) {
-            task.j = j;
-        }
-        draft
     }
 
     /// The same, salvaged.
@@ -96,11 +83,11 @@ impl Draft {
 
     /// The file, with its trailer.
     pub fn file(&self) -> Vec<u8> {
-        let mut file = Vec::with_capacity(file_length(self.sets.len(), self.tasks.len(), self.fourth));
+        let mut file = Vec::with_capacity(file_length(self.sets.len(), self.tasks.len()));
         file.extend([self.sets.len() as u8, self.partitions, self.tasks.len() as u8, self.fourth]);
         file.extend(self.timing.iter().chain(&self.sets).flat_map(|figure| figure.to_le_bytes()));
         for task in &self.tasks {
-            let mut record = vec![0; record_size(self.fourth)];
+            let mut record = [0; RECORD];
             write_record(task, &mut record);
             file.extend(record);
         }
@@ -123,51 +110,13 @@ enum Style {
     Limits,
 }
 
-/// An accepted table; one in three is a bus table, and one in three of either kind has jitter.
+/// An accepted table; one in three is a bus table.
 pub fn draft(rng: &mut Rng) -> Draft {
     let kind = rng.pick(&[Kind::Dram, Kind::Dram, Kind::Bus]);
-    let draft = draft_of(rng, kind);
-    if rng.once_in(3) {
-        jittered(rng, &draft)
-    } else {
-        draft
-    }
+    draft_of(rng, kind)
 }
 
-/// An accepted table with J for its tasks: none, of all sizes up to D - C, and now and then close to D with a C that is lowered for it.
-pub fn jittered(rng: &mut Rng, draft: &Draft) -> Draft {
-    let mut draft = draft.with_jitter(&[]);
-    let style = rng.index(4);
-    for task in &mut draft.tasks {
-        let style = if style == 3 { rng.index(3) } else { style };
-        let room = task.d - task.c;
-        (task.j, task.c) = match style {
-            0 => (jitter(rng, room), task.c),
-            1 => (rng.between(0, room / 4), task.c),
-            _ => close_jitter(rng, task),
-        };
-    }
-    draft
-}
-
-/// Up to this, at both ends, close to them, and of any size between.
-fn jitter(rng: &mut Rng, highest: u64) -> u64 {
-    match rng.index(6) {
-        0 => 0,
-        1 => highest,
-        2 => rng.between(0, highest.min(100)),
-        3 => highest - rng.between(0, highest.min(100)),
-        _ => rng.any_size(0, highest),
-    }
-}
-
-/// A J that leaves a time of any size before D, and a C that fits into that.
-fn close_jitter(rng: &mut Rng, task: &Task) -> (u64, u64) {
-    let left = rng.any_size(1, task.d);
-    (task.d - left, task.c.min(rng.any_size(1, left)))
-}
-
-/// An accepted table of this kind, without jitter.
+/// An accepted table of this kind.
 pub fn draft_of(rng: &mut Rng, kind: Kind) -> Draft {
     let cores = match rng.index(4) {
         0 => rng.pick(&[1, 2, 8]),
@@ -266,7 +215,7 @@ fn task(rng: &mut Rng, style: Style, cores: u64, count: u64) -> Task {
         Style::Any => {
             let t = rng.any_size(T_LOWEST, T_HIGHEST);
             let d = if rng.once_in(2) { t } else { rng.any_size(1, t) };
-            Task { core, c: rng.any_size(1, d), t, d, h: rng.any_size(0, H_HIGHEST.into()) as u32, j: 0 }
+            Task { core, c: rng.any_size(1, d), t, d, h: rng.any_size(0, H_HIGHEST.into()) as u32 }
         }
         Style::Busy { per_request } => {
             let task = busy_task(rng, core, count.div_ceil(cores));
@@ -282,7 +231,7 @@ fn task(rng: &mut Rng, style: Style, cores: u64, count: u64) -> Task {
             let t = rng.pick(&[T_LOWEST, T_HIGHEST]);
             let d = rng.pick(&[1, 2, t / 2, t - 1, t]);
             let c = rng.pick(&[1, d, (d / 10).max(1), (d / 40).max(1)]);
-            Task { core, c, t, d, h: rng.pick(&[0, 1, H_HIGHEST - 1, H_HIGHEST]), j: 0 }
+            Task { core, c, t, d, h: rng.pick(&[0, 1, H_HIGHEST - 1, H_HIGHEST]) }
         }
     }
 }
@@ -291,7 +240,7 @@ fn task(rng: &mut Rng, style: Style, cores: u64, count: u64) -> Task {
 fn busy_task(rng: &mut Rng, core: u8, share: u64) -> Task {
     let t = rng.any_size(T_LOWEST, T_HIGHEST);
     let d = if rng.once_in(2) { t } else { rng.between(t / 2, t) };
-    Task { core, c: rng.between(1, d / share), t, d, h: 0, j: 0 }
+    Task { core, c: rng.between(1, d / share), t, d, h: 0 }
 }
 
 /// Mostly as many as there is room for.
@@ -322,9 +271,8 @@ pub fn worsened(rng: &mut Rng, draft: &Draft) -> Draft {
     let one_in = rng.pick(&[1, 2, 8, 64]);
     for task in worse.tasks.iter_mut() {
         if rng.once_in(one_in) {
-            let most = task.latest() - task.c;
-            let spare = rng.pick(&[0, task.c / 10, most]);
-            task.c += rng.between(0, spare.min(most));
+            let spare = rng.pick(&[0, task.c / 10, task.d - task.c]);
+            task.c += rng.between(0, spare.min(task.d - task.c));
         }
         if rng.once_in(one_in) {
             task.h += rng.any_size(0, (H_HIGHEST - task.h).into()) as u32;
@@ -352,8 +300,7 @@ pub fn starts(rng: &mut Rng, table: &Table, fresh: &[Answer]) -> Vec<u64> {
     if !safe {
         let at = rng.index(starts.len());
         let task = &table.tasks()[at];
-        let latest = task.latest();
-        starts[at] = rng.pick(&[latest, latest + 1, task.d, task.d + 1, u64::MAX, latest / 2, 1 << 63, task.t]);
+        starts[at] = rng.pick(&[task.d, task.d + 1, u64::MAX, task.d / 2, 1 << 63, task.t]);
     }
     match rng.index(4) {
         0 => starts.truncate(rng.index(starts.len() + 1)),
@@ -375,8 +322,8 @@ fn start(rng: &mut Rng, kind: usize, task: &Task, fresh: &Answer) -> u64 {
         2 => rng.between(0, bound),
         3 => task.c.min(bound),
         4 => bound + 1,
-        5 => rng.between(bound, task.latest()),
-        _ => rng.between(0, task.latest()),
+        5 => rng.between(bound, task.d),
+        _ => rng.between(0, task.d),
     }
 }
 
@@ -384,12 +331,11 @@ fn start(rng: &mut Rng, kind: usize, task: &Task, fresh: &Answer) -> u64 {
 /// larger than what is left of it by 64 bits.
 ///
 /// Cores 1 and 2 share a partition and all others are apart, under the slowest timing. The higher tasks of core 1 are released
-/// `releases` times each, and the last response stays within that many of their periods. In every other table these count from their J on.
+/// `releases` times each, and the last response stays within that many of their periods.
 pub fn wide(rng: &mut Rng) -> Draft {
-    let jitter = rng.once_in(2);
     let mut draft = Draft {
         partitions: 8,
-        fourth: if jitter { JITTER_BIT } else { 0 },
+        fourth: 0,
         timing: RANGES.map(|(_, highest)| highest),
         sets: vec![1, 1, 4, 8, 16, 32, 64, 128],
         tasks: Vec::new(),
@@ -404,33 +350,27 @@ pub fn wide(rng: &mut Rng) -> Draft {
         let requests = multiple.div_ceil(per_request);
         let left = requests * per_request - multiple;
         if left < u128::from(T_LOWEST / 2) {
-            draft.tasks = wide_tasks(rng, requests as u64, &Timing::new(&draft.timing), jitter);
-            if draft.tasks.iter().all(|task| task.h <= H_HIGHEST) {
-                return draft;
-            }
+            draft.tasks = wide_tasks(rng, requests as u64, &Timing::new(&draft.timing));
+            return draft;
         }
     }
 }
 
-/// The higher tasks have the same J, and the last one a C that is less by it. That of the task elsewhere makes its releases two.
-fn wide_tasks(rng: &mut Rng, requests: u64, timing: &Timing, jitter: bool) -> Vec<Task> {
-    let [j, other_j] = if jitter { [rng.between(1, T_LOWEST - 1), T_HIGHEST - 1] } else { [0, 0] };
+fn wide_tasks(rng: &mut Rng, requests: u64, timing: &Timing) -> Vec<Task> {
     let higher = 30;
     let releases = rng.between(9_900, 10_000);
     let each = requests / releases / higher;
     let spare = (requests / releases % higher) as usize;
     let mut tasks: Vec<Task> =
-        (0..higher).map(|_| Task { core: 1, c: 1, t: T_LOWEST, d: T_LOWEST, h: each as u32, j }).collect();
+        (0..higher).map(|_| Task { core: 1, c: 1, t: T_LOWEST, d: T_LOWEST, h: each as u32 }).collect();
     for task in &mut tasks[..spare] {
         task.h += 1;
     }
     let per_job_request = (timing.conf() * timing.tck) as u64;
     let job = T_LOWEST * 3 / 4;
-    let counted = if jitter { 3 } else { 2 };
-    let h = (job / counted / per_job_request) as u32;
-    let other = Task { core: 2, c: 1, t: T_HIGHEST, d: T_HIGHEST, h, j: other_j };
-    let c = (releases - 1) * T_LOWEST + 1 - j;
-    let last = Task { core: 1, c, t: T_HIGHEST, d: T_HIGHEST, h: (requests % releases) as u32, j: 0 };
+    let other = Task { core: 2, c: 1, t: T_HIGHEST, d: T_HIGHEST, h: (job / 2 / per_job_request) as u32 };
+    let c = (releases - 1) * T_LOWEST + 1;
+    let last = Task { core: 1, c, t: T_HIGHEST, d: T_HIGHEST, h: (requests % releases) as u32 };
     tasks.extend([other, last]);
     tasks
 }
@@ -453,7 +393,7 @@ fn light_task(rng: &mut Rng, k: usize, tasks: usize, cores: usize) -> Task {
     let t = rng.between(1_000_000_000, 100_000_000_000);
     let share = tasks.div_ceil(cores) as u64;
     let c = t * rng.between(10, 30) / 100 / share;
-    Task { core: (k % cores + 1) as u8, c, t, d: t, h: rng.between(0, 500) as u32, j: 0 }
+    Task { core: (k % cores + 1) as u8, c, t, d: t, h: rng.between(0, 500) as u32 }
 }
 
 /// The first half have the shortest periods and take most of the time: of the memory, and of their core where others run on it.
@@ -468,10 +408,10 @@ fn heavy_task(rng: &mut Rng, k: usize, tasks: usize, cores: usize) -> Task {
         let load = if tasks <= cores { rng.between(10, 100) } else { rng.between(300, 970) };
         let c = t * load / 1000 / share;
         let h = t * (970 - load) / 1000 / (37_500 * used * share);
-        Task { core, c: c.max(1), t, d: t, h: h as u32, j: 0 }
+        Task { core, c: c.max(1), t, d: t, h: h as u32 }
     } else {
         let c = T_HIGHEST / 1000 * rng.between(1, 30);
-        Task { core, c, t: T_HIGHEST, d: T_HIGHEST, h: rng.pick(&[0, 10_000, H_HIGHEST]), j: 0 }
+        Task { core, c, t: T_HIGHEST, d: T_HIGHEST, h: rng.pick(&[0, 10_000, H_HIGHEST]) }
     }
 }
 
@@ -482,20 +422,16 @@ mod tests {
     use crate::judge::{By, Judge};
     use crate::listing::listing;
 
-    /// The whole numbers hold by job; 64 bits would hold by request. About half have jitter.
+    /// The whole numbers hold by job; 64 bits would hold by request.
     #[test]
     fn wide_tables_hold_by_job() {
         let mut rng = Rng::new(1);
-        let mut with_jitter = 0;
         for _ in 0..20 {
-            let draft = wide(&mut rng);
-            let table = file::read(&draft.file()).expect("a wide table is accepted");
-            with_jitter += u32::from(draft.has_jitter());
+            let table = file::read(&wide(&mut rng).file()).expect("a wide table is accepted");
             let judge = Judge::of_accepted(&table);
             let answer = judge.one(table.tasks, 0).expect("a fresh judgement is never refused");
             assert!(matches!(answer, Answer { verdict: Verdict::Holds { by: By::Job, .. }, rounds: 2 }), "{answer:?}");
         }
-        assert!((5..15).contains(&with_jitter), "{with_jitter}");
     }
 
     #[test]
@@ -526,32 +462,6 @@ mod tests {
         }
         assert!((250..350).contains(&tables), "{tables}");
         assert!([request, job, misses].iter().all(|&tasks| tasks > 300), "{request}, {job}, {misses}");
-    }
-
-    /// A third have jitter, of each kind. Their J are none, below 1000, as much as D - C and over nine tenths of D; of their tasks many hold by each
-    /// delay and many miss.
-    #[test]
-    fn jitter_of_every_size() {
-        let mut rng = Rng::new(9);
-        let (mut tables, mut on_buses, mut sizes, mut verdicts) = (0, 0, [0; 4], [0; 3]);
-        for draft in (0..900).map(|_| draft(&mut rng)).filter(Draft::has_jitter) {
-            tables += 1;
-            on_buses += u32::from(draft.kind() == Kind::Bus);
-            for &Task { c, d, j, .. } in &draft.tasks {
-                let is = [j == 0, (1..1000).contains(&j), j > 0 && j == d - c, j > d / 10 * 9];
-                sizes.iter_mut().zip(is).for_each(|(size, is)| *size += u32::from(is));
-            }
-            let table = file::read(&draft.file()).expect("a draft is accepted");
-            for answer in &Judge::of_accepted(&table).all(&[]).expect("it is fresh")[..table.tasks().len()] {
-                verdicts[match answer.verdict {
-                    Verdict::Holds { by: By::Request, .. } => 0,
-                    Verdict::Holds { by: By::Job, .. } => 1,
-                    Verdict::Misses => 2,
-                }] += 1;
-            }
-        }
-        assert!((250..350).contains(&tables) && (70..130).contains(&on_buses), "{tables}, {on_buses}");
-        assert!(sizes.iter().chain(&verdicts).all(|&tasks| tasks > 200), "{sizes:?}, {verdicts:?}");
     }
 
     /// RULES 11.10: a turn of 37,500 ps costs what a request of a core apart does under DDR3-1333.

@@ -52,7 +52,7 @@ impl<'a> Judge<'a> {
     pub fn one(&self, number: u8, start: u64) -> Result<Answer, Refusal> {
         let i = usize::from(number).wrapping_sub(1);
         let task = self.tasks.get(i).ok_or(Refusal::plain(12))?;
-        if start > task.latest() {
+        if start > task.d {
             return Err(Refusal::at(13, i));
         }
         self.rounds(i, start)
@@ -60,7 +60,7 @@ impl<'a> Judge<'a> {
 
     /// All tasks. Starts that are not given are 0; those beyond the tasks are ignored.
     pub fn all(&self, starts: &[u64]) -> Result<[Answer; TASKS], Refusal> {
-        first_fault(13, self.tasks.iter().zip(starts).map(|(task, &start)| start > task.latest()))?;
+        first_fault(13, self.tasks.iter().zip(starts).map(|(task, &start)| start > task.d))?;
         let mut answers = [Answer::default(); TASKS];
         for (i, answer) in answers.iter_mut().enumerate().take(self.tasks.len()) {
             *answer = self.rounds(i, starts.get(i).copied().unwrap_or(0))?;
@@ -68,7 +68,7 @@ impl<'a> Judge<'a> {
         Ok(answers)
     }
 
-    /// The rounds of task `i` (from 0) from a start that is not above its latest allowed response, or refusal 14.
+    /// The rounds of task `i` (from 0) from a start that is not above its deadline, or refusal 14.
     ///
     /// F never falls as t rises, so that a value below its t can only be met in the first round.
     fn rounds(&self, i: usize, start: u64) -> Result<Answer, Refusal> {
@@ -84,7 +84,7 @@ impl<'a> Judge<'a> {
             if response == u128::from(t) {
                 return Ok(Answer { verdict: Verdict::Holds { bound: t, by }, rounds });
             }
-            if response > u128::from(task.latest()) {
+            if response > u128::from(task.d) {
                 return Ok(Answer { verdict: Verdict::Misses, rounds });
             }
             t = response as u64;
@@ -99,9 +99,9 @@ impl<'a> Judge<'a> {
         let mut others = [0; CORES];
         for (j, task) in self.tasks.iter().enumerate() {
             if task.core != own.core {
-                others[core_index(task)] += u128::from(task.releases(t) + 1) * u128::from(task.h);
+                others[core_index(task)] += u128::from(t.div_ceil(task.t) + 1) * u128::from(task.h);
             } else if j < i {
-                let releases = u128::from(task.releases(t));
+                let releases = u128::from(t.div_ceil(task.t));
                 execution += releases * u128::from(task.c);
                 requests += releases * u128::from(task.h);
             }
@@ -116,41 +116,4 @@ impl<'a> Judge<'a> {
 
 fn core_index(task: &Task) -> usize {
     usize::from(task.core) - 1
-}
-
-#[cfg(test)]
-mod tests {
-    use super::*;
-    use crate::file;
-    use crate::gen::{self, Rng};
-
-    impl Judge<'_> {
-        /// RULES 6.7: how many rounds a judgement of task `i` (from 0) may take.
-        pub(crate) fn most_rounds(&self, i: usize) -> u64 {
-            let own = &self.tasks[i];
-            let has_part = |(j, task): &(usize, &Task)| task.core != own.core || *j < i;
-            let others = self.tasks.iter().enumerate().filter(has_part);
-            2 + others.map(|(_, task)| (own.d + task.j).div_ceil(task.t) - 1).sum::<u64>()
-        }
-    }
-
-    /// RULES 6.7, from starts of every kind; and somewhere the rounds are as many.
-    #[test]
-    fn rounds_are_within_their_limit() {
-        let mut rng = Rng::new(8);
-        let mut as_many = 0;
-        for _ in 0..600 {
-            let table = file::read(&gen::draft(&mut rng).file()).expect("a draft is accepted");
-            let judge = Judge::of_accepted(&table);
-            let fresh = judge.all(&[]).expect("it is fresh");
-            let given = judge.all(&gen::starts(&mut rng, &table, &fresh));
-            for answers in [Ok(fresh), given].into_iter().flatten() {
-                for (i, answer) in answers[..table.tasks().len()].iter().enumerate() {
-                    assert!(answer.rounds <= judge.most_rounds(i));
-                    as_many += u32::from(table.tasks().len() > 1 && answer.rounds == judge.most_rounds(i));
-                }
-            }
-        }
-        assert!(as_many > 0);
-    }
 }

@@ -42,7 +42,7 @@ pub trait Library {
 
     fn view(&mut self, file: &[u8], number: u8) -> io::Result<u16>;
 
-    fn record(&mut self, file: &[u8], number: u8) -> io::Result<u32>;
+    fn record(&mut self, file: &[u8], number: u8) -> io::Result<usize>;
 
     fn carry(
         &mut self,

@@ -11,7 +11,6 @@ mod cases;
 mod comparer;
 #[cfg(linked)]
 mod ffi;
-mod jitter_cases;
 mod library;
 mod pairs;
 mod run_cases;
@@ -24,7 +23,7 @@ use std::error::Error;
 use std::process::ExitCode;
 
 use compare_model::answers::SHORT_OUTPUT;
-use comparer::{Comparer, Jitters, Salvages, Tally, Verdicts};
+use comparer::{Comparer, Salvages, Tally, Verdicts};
 use library::Library;
 
 fn main() -> Result<ExitCode, Box<dyn Error>> {
@@ -54,7 +53,7 @@ fn check(seed: u64, count: u64, serve: &[String]) -> Result<ExitCode, Box<dyn Er
 fn summary(seed: u64, count: u64, tally: &Tally) -> String {
     format!(
         "compare: {} calls agree (seed {seed}, {count} random tables): {} accepted, {} refused; {} files whole and yet refused; tasks of DRAM tables {}, \
-         of bus tables {}, at most {} rounds; {}; {} listings, {} too long for their room; {} records; \
+         of bus tables {}, at most {} rounds; {} listings, {} too long for their room; {} records; \
          {} pairs of files, {} of them worsened; {}",
         tally.calls,
         tally.accepted,
@@ -63,7 +62,6 @@ fn summary(seed: u64, count: u64, tally: &Tally) -> String {
         verdicts(&tally.dram),
         verdicts(&tally.bus),
         tally.most_rounds,
-        jitters(&tally.jitter),
         tally.listings,
         tally.too_short,
         tally.records,
@@ -85,18 +83,6 @@ fn salvages(of: &Salvages) -> String {
     )
 }
 
-fn jitters(of: &Jitters) -> String {
-    format!(
-        "with jitter tasks {}, {} judged otherwise without J of higher tasks, {} of tasks elsewhere, {} without their own, {} files refused for J, {} records with J",
-        verdicts(&of.verdicts),
-        of.by_higher,
-        of.by_others,
-        of.by_own,
-        of.refused,
-        of.records
-    )
-}
-
 fn verdicts(of: &Verdicts) -> String {
     format!("{} by request, {} by job, {} missed", of.by_request, of.by_job, of.misses)
 }
@@ -113,14 +99,10 @@ fn lack(tally: &Tally, count: u64) -> Option<String> {
     if tally.worsened == 0 {
         return Some("no pair was one worsened".to_owned());
     }
-    let jitter = &tally.jitter;
-    if [jitter.by_higher, jitter.by_others, jitter.by_own, jitter.refused, jitter.records].contains(&0) {
-        return Some(jitters(jitter));
-    }
     let one_sided = |of: &Verdicts| [of.by_request, of.by_job, of.misses].contains(&0);
-    let kinds = [("DRAM tables", &tally.dram), ("bus tables", &tally.bus), ("tables with jitter", &jitter.verdicts)];
+    let kinds = [("DRAM", &tally.dram), ("bus", &tally.bus)];
     let (name, of) = kinds.into_iter().find(|(_, of)| one_sided(of))?;
-    Some(format!("tasks of {name} were {}", verdicts(of)))
+    Some(format!("tasks of {name} tables were {}", verdicts(of)))
 }
 
 /// The same of its salvages. Each random table is salvaged too.

@@ -5,7 +5,7 @@ use std::collections::BTreeSet;
 use compare_model::answers::SHORT_OUTPUT;
 use compare_model::file;
 use compare_model::gen::{self, Draft, Rng};
-use compare_model::table::{JITTER_BIT, TASKS, T_HIGHEST};
+use compare_model::table::{TASKS, T_HIGHEST};
 
 use crate::comparer::{Comparer, Difference, Reaches};
 
@@ -50,7 +50,7 @@ pub fn random(on: &mut Comparer, rng: &mut Rng, draft: &Draft, faulty: &Draft) -
     }
     short_outputs(on, rng, &file, &worse)?;
     unlike(on, draft, &gen::on_the_other_kind(rng, draft))?;
-    for kind in 0..14 {
+    for kind in 0..12 {
         let other = elsewhere(rng, draft, kind).file();
         calls(on, &file, &other)?;
         calls(on, &other, &file)?;
@@ -90,8 +90,6 @@ fn elsewhere(rng: &mut Rng, draft: &Draft, kind: usize) -> Draft {
         8 => other.tasks.truncate(k + 1),
         9 => other.sets.push(1),
         10 => other.fourth ^= 1,
-        11 => other.fourth ^= JITTER_BIT,
-        12 => task.j = rng.between(0, task.d - task.c),
         _ => other.tasks.swap(0, k),
     }
     other

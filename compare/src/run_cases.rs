@@ -30,7 +30,7 @@ pub fn all(on: &mut Comparer, rng: &mut Rng) -> Outcome {
 
 /// Task 1 has C 1 and one request, and core 2 sends so many that request decides: its bound is 1 + RD.
 fn asked_once(sets: &[u16], ncap: u16, twr: u16) -> Vec<u8> {
-    let task = |core, h| Task { core, c: 1, t: T_LOWEST, d: T_LOWEST, h, j: 0 };
+    let task = |core, h| Task { core, c: 1, t: T_LOWEST, d: T_LOWEST, h };
     let mut draft = Draft { sets: sets.to_vec(), tasks: vec![task(1, 1), task(2, 1_000_000)], ..plain(2, 3, 0) };
     draft.timing[NCAP] = ncap;
     draft.timing[TWR] = twr;

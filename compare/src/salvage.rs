@@ -24,7 +24,7 @@ pub fn salvage(bytes: &[u8], out: &mut [u8]) -> Result<Salvaged, Refusal> {
     if kept == 0 {
         return Err(Refusal::plain(17));
     }
-    let length = file_length(usize::from(board.cores), usize::from(kept), board.fourth);
+    let length = file_length(usize::from(board.cores), usize::from(kept));
     write(bytes, kept, out.get_mut(..length).ok_or(Refusal::plain(15))?);
     let stopped = if kept < board.tasks { kept + 1 } else { 0 };
     Ok(Salvaged { promised: board.tasks, kept, stopped, length })
@@ -32,7 +32,7 @@ pub fn salvage(bytes: &[u8], out: &mut [u8]) -> Result<Salvaged, Refusal> {
 
 /// What stands before the records, or 17 where the file ends before it does, or the first of 5 to 8 and 16.
 fn board(bytes: &[u8]) -> Result<Table, Refusal> {
-    if bytes.len() < HEADER || bytes.len() < record_at(usize::from(bytes[0]), 1, bytes[3]) {
+    if bytes.len() < HEADER || bytes.len() < record_at(usize::from(bytes[0]), 1) {
         return Err(Refusal::plain(17));
     }
     let board = file::read_board(bytes)?;
@@ -58,7 +58,7 @@ fn write(bytes: &[u8], kept: u8, new: &mut [u8]) {
 #[cfg(test)]
 mod tests {
     use super::*;
-    use crate::file::{record_size, LONGEST};
+    use crate::file::{LONGEST, RECORD};
     use crate::gen::{draft, Rng};
 
     /// The new file is the table's with as many tasks as the cut file has whole records, marked and written as any other. The bytes behind it stay.
@@ -73,8 +73,7 @@ mod tests {
             for length in 0..bytes.len() {
                 let mut out = [0xA5; LONGEST];
                 let told = salvage(&bytes[..length], &mut out);
-                let records =
-                    length.saturating_sub(record_at(draft.sets.len(), 1, draft.fourth)) / record_size(draft.fourth);
+                let records = length.saturating_sub(record_at(draft.sets.len(), 1)) / RECORD;
                 let tasks = records.min(draft.tasks.len()) as u8;
                 let mut expected = [0xA5; LONGEST];
                 let fewer = Table { tasks, fourth: table.fourth | SALVAGED_BIT, ..table };

@@ -3,9 +3,7 @@
 
 use std::collections::BTreeSet;
 
-use compare_model::file::{
-    self, file_length, record_at, record_size, JITTER_RECORD, LONGEST, LONGEST_BY_HEADER, PLAIN_RECORD,
-};
+use compare_model::file::{self, file_length, record_at, LONGEST, LONGEST_BY_HEADER, RECORD};
 use compare_model::gen::{self, Draft, Rng};
 use compare_model::listing::listing;
 use compare_model::table::{Task, CORES, H_HIGHEST, PARTITIONS, SALVAGED_BIT, TASKS, T_HIGHEST, T_LOWEST};
@@ -13,7 +11,6 @@ use compare_model::table::{Task, CORES, H_HIGHEST, PARTITIONS, SALVAGED_BIT, TAS
 use crate::bus_cases::TURN;
 use crate::cases::{calls, listed, plain, view};
 use crate::comparer::{Comparer, Difference, Reaches};
-use crate::jitter_cases::with_jitter;
 
 type Outcome = Result<(), Difference>;
 type Fault = fn(&mut Draft);
@@ -48,7 +45,7 @@ pub fn random(on: &mut Comparer, rng: &mut Rng, draft: &Draft) -> Outcome {
         let length = rng.index(file.len());
         expect(on, &file[..length], LONGEST, told_of_cut(&file, length))?;
         let at = rng.index(draft.tasks.len());
-        let broken = with_task(draft, at, rng.pick(&tasks_at_fault(draft, at)));
+        let broken = with_task(draft, at, rng.pick(&tasks_at_fault(&draft.tasks[at], file[0])));
         let told = told_of_records(file[2], at);
         let Some(new) = expect(on, &broken.file(), LONGEST, told)? else { continue };
         rooms(on, &broken.file(), new.len(), told)?;
@@ -57,15 +54,11 @@ pub fn random(on: &mut Comparer, rng: &mut Rng, draft: &Draft) -> Outcome {
     Ok(())
 }
 
-/// The listed table, on a DRAM and on a bus, each also salvaged; the largest table; the smallest; and each of them with jitter.
-fn tables(rng: &mut Rng) -> Vec<Draft> {
+/// The listed table, on a DRAM and on a bus, each also salvaged; the largest table; the smallest.
+fn tables(rng: &mut Rng) -> [Draft; 6] {
     let (dram, bus) = (listed(), listed().on_bus(TURN));
-    let salvaged = [dram.salvaged(), bus.salvaged()];
-    let mut tables = vec![dram, bus, gen::measured(rng, TASKS, CORES, true), plain(1, 1, 1)];
-    tables.extend(salvaged);
-    let with_jitter: Vec<Draft> = tables.iter().map(|draft| gen::jittered(rng, draft)).collect();
-    tables.extend(with_jitter);
-    tables
+    let (dram_salvaged, bus_salvaged) = (dram.salvaged(), bus.salvaged());
+    [dram, bus, dram_salvaged, bus_salvaged, gen::measured(rng, TASKS, CORES, true), plain(1, 1, 1)]
 }
 
 /// The cases, and the new files that were followed.
@@ -99,7 +92,7 @@ impl Cases<'_> {
 
     /// An accepted file with bytes behind it.
     fn longer(&mut self, rng: &mut Rng, file: &[u8]) -> Outcome {
-        for more in [1, 12, PLAIN_RECORD, JITTER_RECORD, 100, LONGEST_BY_HEADER] {
+        for more in [1, 12, RECORD, 100, LONGEST_BY_HEADER] {
             let longer: Vec<u8> = file.iter().copied().chain((0..more).map(|_| rng.word() as u8)).collect();
             self.expect(&longer, Ok([file[2], file[2], 0]))?;
         }
@@ -122,14 +115,9 @@ impl Cases<'_> {
         Ok(())
     }
 
-    /// The listed table's file with every count of tasks and of cores, with jitter and without. A trailer is too short for a record.
+    /// The listed table's file with every count of tasks and of cores. A trailer is too short for a record.
     fn promises(&mut self) -> Outcome {
-        self.promises_of(&listed().file(), 51)?;
-        self.promises_of(&with_jitter().file(), 63)
-    }
-
-    /// So for a file of three tasks that reaches the end of the sets of so many cores.
-    fn promises_of(&mut self, file: &[u8], most_cores: u8) -> Outcome {
+        let file = listed().file();
         for count in 0..=u8::MAX {
             let told = match count {
                 1 | 2 => Ok([count, count, 0]),
@@ -137,14 +125,14 @@ impl Cases<'_> {
                 4..=32 => Ok([count, 3, 4]),
                 _ => Err(5),
             };
-            self.expect(&with_byte(file, 2, count), told)?;
-            let other_cores = with_byte(file, 0, count);
+            self.expect(&with_byte(&file, 2, count), told)?;
+            let other_cores = with_byte(&file, 0, count);
             match count {
-                1..=8 => {
+                0 | 9..=51 => self.refused(&other_cores, 5)?,
+                52.. => self.refused(&other_cores, 17)?,
+                _ => {
                     self.on.salvage(&other_cores, LONGEST)?;
                 }
-                _ if count <= most_cores => self.refused(&other_cores, 5)?,
-                _ => self.refused(&other_cores, 17)?,
             }
         }
         Ok(())
@@ -153,10 +141,9 @@ impl Cases<'_> {
     /// A record at fault in each place, with good ones behind it, and with one that has a lower number's fault. Its fault is told before 18.
     fn records_at_fault(&mut self) -> Outcome {
         let dram = plain(3, 3, 5);
-        let jitter = dram.with_jitter(&[5; 5]);
-        for sound in [dram.on_bus(TURN), dram.salvaged(), dram, jitter.salvaged().on_bus(TURN), jitter] {
+        for sound in [dram.on_bus(TURN), dram.salvaged(), dram] {
             for at in 0..5 {
-                for task in tasks_at_fault(&sound, at) {
+                for task in tasks_at_fault(&sound.tasks[at], 3) {
                     let mut draft = with_task(&sound, at, task);
                     let judged = self.on.judge(&draft.file(), &[], Reaches::all(TASKS))?;
                     assert!((9..=11).contains(&(judged % 256)), "the case isn't what it is meant to be");
@@ -177,12 +164,10 @@ impl Cases<'_> {
             }
         }
         for cores in [0, 9, 10, 255] {
-            for draft in [plain(cores, 2, 3), plain(cores, 2, 3).with_jitter(&[1; 3])] {
-                let (file, end) = (draft.file(), record_at(cores, 1, draft.fourth));
-                self.refused(&file[..end - 1], 17)?;
-                for length in [end, end + 1, file.len()] {
-                    self.refused(&file[..length], 5)?;
-                }
+            let (file, end) = (plain(cores, 2, 3).file(), record_at(cores, 1));
+            self.refused(&file[..end - 1], 17)?;
+            for length in [end, end + 1, file.len()] {
+                self.refused(&file[..length], 5)?;
             }
         }
         Ok(())
@@ -191,7 +176,7 @@ impl Cases<'_> {
     /// Each refusal of what stands before the records: alone, with each later one, with no record kept and with no room, and cut short of the sets.
     fn order(&mut self) -> Outcome {
         let partitions = |draft: &mut Draft| draft.partitions = PARTITIONS as u8 + 1;
-        let fourth = |draft: &mut Draft| draft.fourth |= 8;
+        let fourth = |draft: &mut Draft| draft.fourth |= 4;
         let tasks = |draft: &mut Draft| draft.tasks.resize(TASKS + 1, draft.tasks[0]);
         let set = |draft: &mut Draft| draft.sets[1] = 0;
         let of_dram: [(u16, Fault); 6] = [
@@ -209,14 +194,7 @@ impl Cases<'_> {
             (8 + 2 * 256, set),
         ];
         let sound = plain(3, 3, 4);
-        let jitter = sound.with_jitter(&[1; 4]);
-        for (sound, faults) in [
-            (sound.on_bus(TURN), &of_bus[..]),
-            (sound.salvaged(), &of_dram),
-            (sound, &of_dram),
-            (jitter.on_bus(TURN), &of_bus),
-            (jitter, &of_dram),
-        ] {
+        for (sound, faults) in [(sound.on_bus(TURN), &of_bus[..]), (sound.salvaged(), &of_dram), (sound, &of_dram)] {
             for (first, &(code, fault)) in faults.iter().enumerate() {
                 for (_, later) in &faults[first..] {
                     let mut draft = sound.clone();
@@ -232,10 +210,10 @@ impl Cases<'_> {
 
     /// A table that is refused so, also where it ends behind its sets, or has no record that passes. Where it ends before, it is refused by 17.
     fn refused_before_its_records(&mut self, draft: &Draft, code: u16) -> Outcome {
-        let (file, end) = (draft.file(), record_at(draft.sets.len(), 1, draft.fourth));
+        let (file, end) = (draft.file(), record_at(draft.sets.len(), 1));
         self.refused(&file, code)?;
         self.refused(&with_task(draft, 0, Task::default()).file(), code)?;
-        for length in [end, end + record_size(draft.fourth) - 1] {
+        for length in [end, end + RECORD - 1] {
             self.refused(&file[..length], code)?;
         }
         self.refused(&file[..end - 1], 17)
@@ -252,7 +230,7 @@ fn expect(on: &mut Comparer, file: &[u8], room: usize, told: Told) -> Result<Opt
 
 /// What is told of an accepted file that is cut at this length.
 fn told_of_cut(file: &[u8], length: usize) -> Told {
-    let records = length.saturating_sub(record_at(usize::from(file[0]), 1, file[3])) / record_size(file[3]);
+    let records = length.saturating_sub(record_at(usize::from(file[0]), 1)) / RECORD;
     told_of_records(file[2], records)
 }
 
@@ -282,8 +260,7 @@ fn shown(on: &mut Comparer, cut: &[u8], new: &[u8]) -> Outcome {
     for number in 1..=tasks {
         assert_eq!(on.view(new, number)?, 0, "a kept record is shown");
         let at = on.record(new, number)?;
-        assert_eq!(at.len(), record_size(cut[3]), "a kept record has its size");
-        assert_eq!(new[at.clone()], cut[at], "a kept record is the cut file's");
+        assert_eq!(new[at..at + RECORD], cut[at..at + RECORD], "a kept record is the cut file's");
     }
     view(on, new, tasks + 1)
 }
@@ -330,10 +307,10 @@ fn rooms(on: &mut Comparer, cut: &[u8], length: usize, told: Told) -> Outcome {
 fn again(on: &mut Comparer, new: &[u8]) -> Outcome {
     expect(on, new, LONGEST, Err(19))?;
     let (cores, tasks) = (usize::from(new[0]), usize::from(new[2]));
-    for length in (1..=tasks).map(|number| record_at(cores, number + 1, new[3])).chain([new.len() - 1]) {
+    for length in (1..=tasks).map(|number| record_at(cores, number + 1)).chain([new.len() - 1]) {
         let once_more = expect(on, &new[..length], LONGEST, told_of_cut(new, length))?.expect("a record is kept");
-        let kept = ((length - record_at(cores, 1, new[3])) / record_size(new[3])).min(tasks);
-        let mut fewer = with_byte(&new[..file_length(cores, kept, new[3])], 2, kept as u8);
+        let kept = ((length - record_at(cores, 1)) / RECORD).min(tasks);
+        let mut fewer = with_byte(&new[..file_length(cores, kept)], 2, kept as u8);
         file::seal(&mut fewer);
         assert_eq!(once_more, fewer, "the bit stays, and all else");
     }
@@ -347,18 +324,14 @@ fn accepted_but_not_listed(on: &mut Comparer, new: &[u8]) -> Outcome {
     Ok(())
 }
 
-/// A task of an accepted table with each fault that 9 to 11 find.
-fn tasks_at_fault(draft: &Draft, at: usize) -> Vec<Task> {
-    let (sound, cores) = (&draft.tasks[at], draft.sets.len() as u8);
+/// The task with each fault that 9 to 11 find, on so many cores.
+fn tasks_at_fault(sound: &Task, cores: u8) -> Vec<Task> {
     let mut tasks = Vec::new();
     tasks.extend([0, cores + 1, 255].map(|core| Task { core, ..*sound }));
     tasks.extend([T_LOWEST - 1, T_HIGHEST + 1].map(|t| Task { t, d: t.min(sound.d), c: 1, ..*sound }));
     tasks.extend([0, sound.t + 1, u64::MAX].map(|d| Task { d, ..*sound }));
-    tasks.extend([0, sound.latest() + 1, sound.d + 1, u64::MAX].map(|c| Task { c, ..*sound }));
+    tasks.extend([0, sound.d + 1, u64::MAX].map(|c| Task { c, ..*sound }));
     tasks.extend([H_HIGHEST + 1, u32::MAX].map(|h| Task { h, ..*sound }));
-    if draft.has_jitter() {
-        tasks.extend([sound.d - sound.c + 1, sound.d, sound.t, u64::MAX].map(|j| Task { j, ..*sound }));
-    }
     tasks
 }
 

@@ -86,8 +86,8 @@ impl Library for Served {
         Ok(self.call(b'v', number, Inputs::file(file), Outputs::bytes(Lent::nothing()))? as u16)
     }
 
-    fn record(&mut self, file: &[u8], number: u8) -> io::Result<u32> {
-        Ok(self.call(b'o', number, Inputs::file(file), Outputs::bytes(Lent::nothing()))? as u32)
+    fn record(&mut self, file: &[u8], number: u8) -> io::Result<usize> {
+        Ok(self.call(b'o', number, Inputs::file(file), Outputs::bytes(Lent::nothing()))? as usize)
     }
 
     fn carry(

@@ -35,7 +35,7 @@ impl Judge<'_> {
         let (mut execution, mut requests) = (u128::from(own.c), u128::from(own.h));
         let (mut least, mut all) = ([0; CORES], [0; CORES]);
         for (j, task) in self.tasks.iter().enumerate() {
-            let (releases, h) = (u128::from(task.releases(t)), u128::from(task.h));
+            let (releases, h) = (u128::from(t.div_ceil(task.t)), u128::from(task.h));
             if task.core != own.core {
                 let q = usize::from(task.core) - 1;
                 least[q] += 2 * h;
@@ -76,7 +76,7 @@ impl Judge<'_> {
             let parts = self.parts(i, t);
             rounds.push(parts);
             match parts.response() {
-                next if next == u128::from(t) || next > u128::from(task.latest()) => return rounds,
+                next if next == u128::from(t) || next > u128::from(task.d) => return rounds,
                 next => t = next as u64,
             }
         }
@@ -110,7 +110,7 @@ mod tests {
                         assert_eq!(answer.verdict, Verdict::Holds { bound, by });
                         assert_eq!(last.response(), u128::from(bound));
                     }
-                    Verdict::Misses => assert!(last.response() > u128::from(table.tasks()[i].latest())),
+                    Verdict::Misses => assert!(last.response() > u128::from(table.tasks()[i].d)),
                 }
             }
             let Stops { floor, core, never } = judge.stops(usize::from(table.cores));

@@ -13,10 +13,9 @@ pub const T_LOWEST: u64 = 100_000_000;
 pub const T_HIGHEST: u64 = 1_000_000_000_000;
 pub const H_HIGHEST: u32 = 1_000_000;
 
-/// The bits of the fourth byte: of a bus table, of a salvaged one, and of one with jitter.
+/// The bits of the fourth byte: of a bus table, and of a salvaged one.
 const BUS_BIT: u8 = 1;
 pub const SALVAGED_BIT: u8 = 2;
-pub const JITTER_BIT: u8 = 4;
 
 /// What the cores share: a DRAM, or a memory behind a bus that serves them in turn.
 #[derive(Clone, Copy, Debug, PartialEq, Eq)]
@@ -35,17 +34,12 @@ impl Kind {
         }
     }
 
-    /// The fourth byte of an accepted table of this kind that isn't salvaged and has no jitter.
+    /// The fourth byte of an accepted table of this kind that isn't salvaged.
     pub fn fourth(self) -> u8 {
         match self {
             Kind::Dram => 0,
             Kind::Bus => BUS_BIT,
         }
-    }
-
-    /// The fourth byte with the kind changed to this one, and its other bits as they were.
-    pub fn put_in(self, fourth: u8) -> u8 {
-        fourth & !BUS_BIT | self.fourth()
     }
 }
 
@@ -57,8 +51,6 @@ pub struct Task {
     pub t: u64,
     pub d: u64,
     pub h: u32,
-    /// How much later than what sets it off it may be released; 0 in a table without jitter.
-    pub j: u64,
 }
 
 /// A table. Places beyond the counts mean nothing.
@@ -92,7 +84,7 @@ impl Table {
     pub fn check(&self) -> Result<(), Refusal> {
         self.check_board()?;
         first_fault(9, self.tasks().iter().map(|task| !self.has_core_of(task)))?;
-        first_fault(10, self.tasks().iter().map(|task| !self.has_times_of(task)))?;
+        first_fault(10, self.tasks().iter().map(|task| !task.times_pass()))?;
         first_fault(11, self.tasks().iter().map(|task| !task.requests_pass()))
     }
 
@@ -108,11 +100,7 @@ impl Table {
 
     /// Does this task, on these cores, pass 9 to 11?
     pub fn task_passes(&self, task: &Task) -> bool {
-        self.has_core_of(task) && self.has_times_of(task) && task.requests_pass()
-    }
-
-    pub fn with_jitter(&self) -> bool {
-        self.fourth & JITTER_BIT != 0
+        self.has_core_of(task) && task.times_pass() && task.requests_pass()
     }
 
     pub fn salvaged(&self) -> bool {
@@ -138,7 +126,7 @@ impl Table {
     pub fn check_header(&self) -> Result<(), Refusal> {
         let passes = |count: u8, highest: usize| (1..=highest).contains(&usize::from(count));
         let counts = passes(self.cores, CORES) && passes(self.partitions, PARTITIONS) && passes(self.tasks, TASKS);
-        if counts && self.fourth & !(BUS_BIT | SALVAGED_BIT | JITTER_BIT) == 0 {
+        if counts && self.fourth & !(BUS_BIT | SALVAGED_BIT) == 0 {
             Ok(())
         } else {
             Err(Refusal::plain(5))
@@ -153,30 +141,11 @@ impl Table {
     fn has_core_of(&self, task: &Task) -> bool {
         (1..=self.cores).contains(&task.core)
     }
-
-    /// Limits of T, D, J and C, and no J where the table has no jitter.
-    fn has_times_of(&self, task: &Task) -> bool {
-        task.times_pass() && (task.j == 0 || self.with_jitter())
-    }
 }
 
 impl Task {
-    /// The latest allowed response, D - J, of a task whose J is below its D.
-    pub fn latest(&self) -> u64 {
-        self.d - self.j
-    }
-
-    /// How often it is released in a time (RULES 5.1).
-    pub fn releases(&self, t: u64) -> u64 {
-        (t + self.j).div_ceil(self.t)
-    }
-
-    /// RULES 2.2, of T, D, J and C.
-    pub fn times_pass(&self) -> bool {
-        (T_LOWEST..=T_HIGHEST).contains(&self.t)
-            && (1..=self.t).contains(&self.d)
-            && self.j < self.d
-            && (1..=self.latest()).contains(&self.c)
+    fn times_pass(&self) -> bool {
+        (T_LOWEST..=T_HIGHEST).contains(&self.t) && (1..=self.t).contains(&self.d) && (1..=self.d).contains(&self.c)
     }
 
     fn requests_pass(&self) -> bool {

@@ -8,18 +8,18 @@ use std::io;
 use std::process::ExitCode;
 
 use compare_model::carry;
-use compare_model::file::{self, part, JITTER_RECORD};
+use compare_model::file::{self, part};
 use compare_model::judge::{Answer, By, Judge, Verdict};
 use compare_model::listing::{lines, listing, name};
 use compare_model::refusal::Refusal;
 use compare_model::salvage::{salvage, Salvaged};
-use compare_model::table::{Table, FIGURES, TASKS};
+use compare_model::table::{Table, Task, FIGURES, TASKS};
 
 /// Where the sets and the tasks are in a raw table: after the counts, the timing, tRFC and tREFI.
 const RAW_SETS: usize = 4 + 2 * FIGURES + 8;
 const RAW_TASKS: usize = RAW_SETS + 16;
-/// A raw task is a record with J, whatever the fourth byte is.
-const RAW_TASK: usize = JITTER_RECORD;
+/// A raw task is a record and its J.
+const RAW_TASK: usize = 37;
 /// A raw table as a whole.
 const RAW: usize = RAW_TASKS + RAW_TASK * TASKS;
 /// Writing goes to this much room of this byte.
@@ -183,8 +183,15 @@ fn raw(bytes: &[u8]) -> Table {
     for (at, set) in table.sets.iter_mut().enumerate() {
         *set = u16::from_le_bytes(part(bytes, RAW_SETS + 2 * at));
     }
-    for (task, record) in table.task.iter_mut().zip(bytes[RAW_TASKS..RAW].chunks_exact(RAW_TASK)) {
-        *task = file::read_record(record);
+    for (at, task) in table.task.iter_mut().enumerate() {
+        let record = &bytes[RAW_TASKS + RAW_TASK * at..];
+        *task = Task {
+            core: record[0],
+            c: u64::from_le_bytes(part(record, 1)),
+            t: u64::from_le_bytes(part(record, 9)),
+            d: u64::from_le_bytes(part(record, 17)),
+            h: u32::from_le_bytes(part(record, 25)),
+        };
     }
     table
 }

@@ -22,9 +22,9 @@ module _ (s : List ℕ) where
   nothing_read e = refused-read s e ∙ sym (rw (← not_read e) at (refused_to_judge s (rw (← not_read e) e)))
 
   -- the table that was read has the file's fourth byte
-  pub same_fourth : {t : Table} → t ≡ decode s → t.fourth ≡ form_in s
+  pub same-fourth : {t : Table} → t ≡ decode s → t.fourth ≡ form_in s
   unfolding decode
-  same_fourth e = rw e
+  same-fourth e = rw e
 
   module _ (read : is_accepted (check_file s) ≡ true) where
     pub salvaged : says_salvaged (form_in s) ≡ true → refused 18 0 ≡ check_to_judge s

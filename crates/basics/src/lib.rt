@@ -1,8 +1,8 @@
-// Small steps that many crates take: a refusal made, the kind of a table asked for, a task's latest response, a number held to its limits, the larger of two numbers.
-ghost use Rattle.std.specs.Prelude.{◌≡◌, not, max};
+// Small steps that many crates take: a refusal made, the kind of a table asked for and its mark, a task's latest response, a number held to its limits, the larger of two numbers.
+ghost use Rattle.std.specs.Prelude.{◌≡◌, not, max, ◌<◌};
 ghost use Rattle.laws.specs.Idioms.{within};
 ghost use Rattle.rules.specs.Chain.{refused};
-ghost use Rattle.rules.specs.Kinds.{says_bus, says_salvaged, says_jitter};
+ghost use Rattle.rules.specs.Kinds.{says_bus, says_salvaged, marked};
 ghost use Rattle.rules.specs.Tasks as Tasks;
 
 use rules::{Refusal, Task};
@@ -28,21 +28,22 @@ pub fn says_salvaged(fourth: u8) -> bool
     fourth / 2 % 2 == 1
 }
 
-// RULES 2.1: in a table with this fourth byte tasks have a jitter, and records the bytes for it.
-pub fn says_jitter(fourth: u8) -> bool
-    ensures { result ≡ says_jitter fourth }
+// RULES 7.8: bit 1 set, and the other bits as they are, of a fourth byte that passes check 5.
+pub fn mark_salvaged(fourth: u8) -> u8
+    requires { fourth < 4 }
+    ensures { result ≡ marked fourth }
 {
-    fourth / 4 % 2 == 1
+    if says_salvaged(fourth) {
+        return fourth;
+    }
+    fourth + 2
 }
 
-// RULES 2.2: the latest allowed response of a task, 0 where its jitter is no less than its deadline. The one place that takes it from the figures.
+// The latest allowed response of a task: the one place that takes it from the figures.
 pub fn latest(task: Task) -> u64
     ensures { result ≡ Tasks.latest task }
 {
-    if task.deadline.0 < task.jitter.0 {
-        return 0;
-    }
-    task.deadline.0 - task.jitter.0
+    task.deadline.0
 }
 
 // Is x below the lowest or above the highest?

@@ -9,7 +9,7 @@ ghost use Rattle.plain.specs.Codes.{code_of, salvage_code};
 ghost use Rattle.judged.specs.JudgedFile.{check_judged_file, JudgedFile};
 ghost use Rattle.recarry.specs.Files.{carry_code, carry_refusal, CarriedFiles, files_worsen};
 ghost use Rattle.reasons.specs.Reasons.{reason_text};
-ghost use Rattle.shown.specs.Shown.{task_count, recordTold};
+ghost use Rattle.shown.specs.Shown.{task_count, recordPlace};
 
 // The refusal of a table file, 0 where it is accepted.
 #[unsafe(no_mangle)]
@@ -66,12 +66,12 @@ pub extern "C" fn ryb_view(file: &[u8], task: u8) -> u16
     plain::code(view::view_refusal(file, task))
 }
 
-// Where a task's record starts in the file and how many bytes it has, 0 where there is none.
+// Where a task's record starts in the file, 0 where there is none.
 #[unsafe(no_mangle)]
-pub extern "C" fn ryb_record(file: &[u8], task: u8) -> u32
-    ensures { result ≡ recordTold file.now task }
+pub extern "C" fn ryb_record(file: &[u8], task: u8) -> usize
+    ensures { result ≡ recordPlace file.now task }
 {
-    shown::record_told(file, task)
+    shown::record_place(file, task)
 }
 
 // Reads two files and judges the newer one's tasks after the older one. A refusal changes nothing.

@@ -51,7 +51,7 @@ fn note_what(what: u8, place: u8, bus: bool) {
         console::note_place(kind(what, bus), place);
     }
     note(part(
-        b"the number of cores|the number of partitions|the number of tasks|the fourth byte||'s set|'s core|'s deadline|'s jitter|\
+        b"the number of cores|the number of partitions|the number of tasks|the fourth byte||'s set|'s core|'s deadline|\
         's execution time|'s request count|'s period",
         b'|',
         what,
@@ -60,8 +60,8 @@ fn note_what(what: u8, place: u8, bus: bool) {
 
 fn rule(what: u8) -> u8 {
     match what {
-        10 | 11 => 2,
-        12 => 3,
+        9 | 10 => 2,
+        11 => 3,
         _ => 1,
     }
 }
@@ -138,11 +138,11 @@ fn carry(older: &[u8], newer: &[u8]) -> u8 {
 }
 
 fn load_both() -> u8 {
-    let mut older = [0u8; 9992];
+    let mut older = [0u8; 7952];
     let Got::Bytes(n) = console::load(b"carry: ", 1, &mut older) else {
         return 3;
     };
-    let mut newer = [0u8; 9992];
+    let mut newer = [0u8; 7952];
     let Got::Bytes(m) = console::load(b"carry: ", 2, &mut newer) else {
         return 3;
     };

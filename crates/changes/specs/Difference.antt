@@ -2,13 +2,13 @@
 --     1 to 4     the number of cores, of partitions, of tasks, and the fourth byte: place 0
 --     5          a timing figure: places 1 to 15
 --     6          the set of a core: places 1 to the number of cores
---     7 to 12    a task's core, deadline, jitter, execution time, request count and period: of the first task at fault, the first of these
+--     7 to 11    a task's core, deadline, execution time, request count and period: of the first task at fault, the first of these
 -- Assumes nothing.
 use Rattle.std.specs.Prelude.{ℕ, zero, suc, ◌+◌, Bool, cond, List, leb, eqb}
 use Rattle.rules.specs.declared.Task.{Task}
 use Rattle.rules.specs.declared.Table.{Table}
 use Rattle.laws.specs.Idioms.{entry}
-use Rattle.rules.specs.Tasks.{C, T, D, H, J, task_of}
+use Rattle.rules.specs.Tasks.{C, T, D, H, task_of}
 use Rattle.changes.specs.declared.Change.{Change}
 
 -- nothing is at fault; figure number `what` is, at a place
@@ -67,15 +67,14 @@ board_difference older newer =
     or_else unlike 5 15 older.timing newer.timing
     or_else unlike 6 older.cores older.sets newer.sets
 
--- 7 to 12, of task number k, which was i and is j
+-- 7 to 11, of task number k, which was i and is j
 unfoldable pub task_difference : ℕ → Task → Task → Change
 task_difference k i j =
     unequal 7 k i.core j.core
     or_else unequal 8 k (D i) (D j)
-    or_else unequal 9 k (J i) (J j)
-    or_else lower 10 k (C i) (C j)
-    or_else lower 11 k (H i) (H j)
-    or_else longer 12 k (T i) (T j)
+    or_else lower 9 k (C i) (C j)
+    or_else lower 10 k (H i) (H j)
+    or_else longer 11 k (T i) (T j)
 
 -- of the first task at fault
 unfoldable pub tasks_difference : Table → Table → Change

@@ -82,17 +82,14 @@ pub fn task_difference(k: u8, i: Task, j: Task) -> Change
     if i.deadline.0 != j.deadline.0 {
         return at_fault(8, k, i.deadline.0, j.deadline.0);
     }
-    if i.jitter.0 != j.jitter.0 {
-        return at_fault(9, k, i.jitter.0, j.jitter.0);
-    }
     if j.exec.0 < i.exec.0 {
-        return at_fault(10, k, i.exec.0, j.exec.0);
+        return at_fault(9, k, i.exec.0, j.exec.0);
     }
     if j.requests < i.requests {
-        return at_fault(11, k, i.requests as u64, j.requests as u64);
+        return at_fault(10, k, i.requests as u64, j.requests as u64);
     }
     if i.period.0 < j.period.0 {
-        return at_fault(12, k, i.period.0, j.period.0);
+        return at_fault(11, k, i.period.0, j.period.0);
     }
     nothing()
 }

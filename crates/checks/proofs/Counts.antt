@@ -23,7 +23,7 @@ module _ (cores partitions tasks fourth : ℕ) where
     unfolding board_refusal
     counts_pass e = simp e
 
-  counts-hold : counts_fault cores partitions tasks fourth ≡ false → within 1 8 cores && within 1 16 partitions && within 1 32 tasks && ltb fourth 8 ≡ true
+  counts-hold : counts_fault cores partitions tasks fourth ≡ false → within 1 8 cores && within 1 16 partitions && within 1 32 tasks && ltb fourth 4 ≡ true
   unfolding counts_fault fourth_allowed
   counts-hold e = not-false _ e
 

@@ -1,6 +1,6 @@
-// Checks 5 to 11 and 16 of a table, in their order: 5 to 8 of its board, of which 5 and 8 are in `limits`, 6 and 7, and 16 in their place, in `timing`; then 9 to 11 in one walk over its tasks, of each in `tasks`.
+// Checks 5 to 11 and 16 of a table, in their order: 5 to 8 of its board, of which 5 and 8 are in `limits`, 6 and 7, and 16 in their place, in `timing`; then 9 to 11, which are in `tasks`.
 ghost use Rattle.std.specs.Prelude.{◌≡◌};
-ghost use Rattle.rules.specs.Refusals.{check_row, board_refusal, check_board, check_tasks, check_table};
+ghost use Rattle.rules.specs.Refusals.{check_row, board_refusal, check_board, check_table};
 
 use basics::refused;
 use rules::{Refusal, Table};
@@ -44,23 +44,6 @@ pub fn check_board(t: Table) -> Refusal
     board_refusal(t.cores, t.partitions, t.tasks, t.fourth, row, &sets)
 }
 
-// 9 to 11: the tasks, in one walk. Beyond the array there is no task.
-pub fn check_tasks(t: Table) -> Refusal
-    ensures { result ≡ check_tasks t }
-{
-    let mut seen = tasks::no_faults();
-    let mut i: u8 = 0;
-    while i < t.tasks {
-        let mut x = tasks::no_task();
-        if i < 32 {
-            x = t.task[i as usize];
-        }
-        seen = tasks::noted(seen, i + 1, t.cores, t.fourth, x);
-        i += 1;
-    }
-    tasks::told(seen)
-}
-
 // 5 to 11 and 16: what a table passed directly meets (RULES 9.4).
 pub fn check(t: Table) -> Refusal
     ensures { result ≡ check_table t }
@@ -69,5 +52,5 @@ pub fn check(t: Table) -> Refusal
     if board.number != 0 {
         return board;
     }
-    check_tasks(t)
+    tasks::check(t)
 }

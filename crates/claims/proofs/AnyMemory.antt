@@ -1,6 +1,5 @@
 -- Points 2 and 3 over any memory: the laws of `facts`, put together. Assumes nothing.
 use Rattle.facts.proofs.Cases.{case_fresh, case_start, case_carried}
-use Rattle.facts.proofs.Worsened.{worsened}
 use Rattle.facts.proofs.Instance.{case_fit, case_worse}
 use Rattle.claims.specs.AnyMemory.{AnyMemory}
 
@@ -10,5 +9,5 @@ any_memory = record {
   from_start = case_start;
   from_older = case_carried;
   of_table = λ t k task. case_fit t task.table.accepted k task.first task.last;
-  of_two-tables = λ older newer worse. case_worse older newer worse.older_judged.accepted worse.newer_judged.accepted (worsened older newer worse.alike);
+  of_two-tables = λ older newer worse. case_worse older newer worse.older_judged.accepted worse.newer_judged.accepted worse.alike;
 }

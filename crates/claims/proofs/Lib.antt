@@ -3,19 +3,13 @@
 --     Point2     what a verdict says
 --     Point3     a newer table judged from the older one's bounds
 --     AnyMemory  points 2 and 3 over any memory
---     SameEquations  tables with the same tasks over the same memory are judged alike
 --     Sets       the sets of a bus table have no effect
 --     Spared     where the rule of no row hit moves RD, and nothing else
---     Enough     a time that F does not raise is enough
 --     NoRun      so no bound is later; what is claimed of that rule
---     Jitter     what jitter does, and that 0 does nothing
 pub mod Refused
 pub mod Point2
 pub mod Point3
 pub mod AnyMemory
-pub mod SameEquations
 pub mod Sets
 pub mod Spared
-pub mod Enough
 pub mod NoRun
-pub mod Jitter

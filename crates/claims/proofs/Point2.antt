@@ -25,7 +25,7 @@ use Rattle.rules.specs.Response.{F, request, job, decided, decider}
 use Rattle.rules.specs.Judgement.{start_of, with_delay, rounds_of, judge, bound_of}
 use Rattle.rules.specs.Kinds.{is_salvaged}
 use Rattle.rules.specs.Chain.{accepted, is_accepted, given}
-use Rattle.rules.specs.Refusals.{check_table, check_judged, check_all}
+use Rattle.rules.specs.Refusals.{check_table, check_judged, check_one, check_all}
 use Rattle.facts.proofs.Chain.{both-accepted, no_fault}
 use Rattle.rules.specs.Operations.{judge_one, judge_all, fresh_starts}
 use Rattle.facts.proofs.Starts.{Judgeable, one-judgeable, judgeable-one}

@@ -1,6 +1,7 @@
 -- Point 3 holds of the operations, and its premise on starts is needed. Assumes nothing.
 use mathlib.Core.Path.{◌≡◌, refl, sym, ◌∙◌, ap}
 use mathlib.Core.Bool.{true}
+use mathlib.Core.List.{List}
 use Prim.Native.Nat.{ℕ, ◌≤◌}
 use native.Mathlib.Omega.{arith}
 use Rattle.equation.specs.Outcome as outcome
@@ -18,6 +19,7 @@ use Rattle.rules.specs.Units.{ps}
 use Rattle.rules.specs.Tasks.{latest, task_of}
 use Rattle.rules.specs.Response.{F, decider}
 use Rattle.rules.specs.Judgement.{with_delay, rounds_of, judge}
+use Rattle.rules.specs.Order.{worsens}
 use Rattle.rules.specs.Chain.{accepted, is_accepted}
 use Rattle.rules.specs.Refusals.{check_judged}
 use Rattle.rules.specs.Operations.{judge_one, judge_all, answers_from, fresh, fresh_starts, older_bound, older_bounds, verdicts, check_both, is_carried, rejudging}
@@ -96,7 +98,7 @@ module _ (older newer : Table) (w : NewerWorse older newer) where
 
   module _ (k : ℕ) (low : 1 ≤ k) (high : k ≤ newer.tasks) where
     in_older : k ≤ older.tasks
-    in_older = rw (worsened older newer w.alike).harder.board.tasks high
+    in_older = rw (worsened older newer w.alike).board.tasks high
 
     task : JudgedTask newer k
     task = record { table = w.newer_judged; first = low; last = high }

@@ -7,11 +7,9 @@
 --     AnyMemory  points 2 and 3 over any memory, which the two before are cases of
 --     Sets       beside the points: the sets of a bus table have no effect
 --     NoRun      beside the points: what a window of 0 costs, against the rule of before
---     Jitter     beside the points: no jitter does nothing, and more of it never helps
 pub mod Refused
 pub mod Point2
 pub mod Point3
 pub mod AnyMemory
 pub mod Sets
 pub mod NoRun
-pub mod Jitter

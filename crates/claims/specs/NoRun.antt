@@ -59,7 +59,7 @@ formerly_and_now =
 -- of every row and every table, accepted or not, where nothing else is said
 pub record NoRun : Type 0 where
   pub none : (w : Row) → run w 0 ≡ cycles 0
-  pub every_other : (w : Row) (m : ℕ) → 1 ≤ m → run w m ≡ former_run w m
+  pub every-other : (w : Row) (m : ℕ) → 1 ≤ m → run w m ≡ former_run w m
   -- RD falls by the rest of a run, and no further: tRP + tRCD stay
   pub falls : (t : Table) (p : ℕ) → Spared t p
       → (former_memory t p).per_request ≡ (memory_of t p).per_request + (tWR t.timing - tWTR t.timing) * tCK t.timing

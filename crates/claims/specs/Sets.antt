@@ -23,7 +23,7 @@ with_sets sets t = record {
 pub record OnBus (t : Table) (sets : List ℕ) : Type 0 where
   pub bus : is_bus t ≡ true
   pub own-accepted : AcceptedTable t
-  pub other_accepted : AcceptedTable (with_sets sets t)
+  pub other-accepted : AcceptedTable (with_sets sets t)
 
 -- two bus tables that differ only in their sets are judged alike, and listed alike
 pub record SetsAside : Type 0 where

@@ -13,6 +13,7 @@ use Rattle.equation.specs.Equation.{Equation}
 use Rattle.equation.specs.Outcome.{Outcome}
 use Rattle.equation.specs.Rounds.{Rounds}
 use Rattle.equation.specs.Start.{Allowed}
+use Rattle.laws.proofs.Quotients.{ceil-rises}
 use Rattle.equation.proofs.Solve.{solve-only}
 use Rattle.equation.proofs.Loop.{Round, starts, Midway, midway-next, midway-holds, midway-misses}
 use Rattle.rules.specs.declared.Verdict.TheVariants.{Holds, Misses}
@@ -28,7 +29,7 @@ use Rattle.climb.specs.Run.{lowest_of, start_from, Ready, answer_of, is_high, cl
 
 module _ (t u : ℕ) (h : t ≤ u) (m : Terms) where
   above-rises : (costs : List ℕ) → above_of m costs t ≤ above_of m costs u
-  above-rises costs = asked_mono 0 m.own.first m.own.place m.spans costs t u h
+  above-rises costs = asked_mono 0 m.own.first m.own.place m.periods costs t u (λ period. ceil-rises period h)
 
   request-rises : request_of m t ≤ request_of m u
   unfolding request_of
@@ -38,7 +39,7 @@ module _ (t u : ℕ) (h : t ≤ u) (m : Terms) where
   unfolding job_of job_by arrived_on
   job-rises =
       weighed_mono m.own.others.cores m.own.others.weight _ _
-      (λ q. asked_mono 1 (get_or m.begins q 0) (get_or m.begins (q + 1) 0) m.spans m.asks t u h)
+      (λ q. asked_mono 1 (get_or m.begins q 0) (get_or m.begins (q + 1) 0) m.periods m.asks t u (λ period. ceil-rises period h))
 
   time-rises : time_of m t ≤ time_of m u
   unfolding time_of

@@ -39,20 +39,19 @@ pub fn settle(
     own: Own,
     from: &[usize; 9],
     periods: &[u64; 33],
-    jitters: &[u64; 33],
     invs: &[u64; 33],
     execs: &[u64; 33],
     asks: &[u64; 33],
     given: u64,
 ) -> Climbed
     requires small { Small invs.now }
-    requires ready { Ready (terms_of own from.now periods.now jitters.now execs.now asks.now) given }
-    ensures { result ≡ climbed (terms_of own from.now periods.now jitters.now execs.now asks.now) given }
+    requires ready { Ready (terms_of own from.now periods.now execs.now asks.now) given }
+    ensures { result ≡ climbed (terms_of own from.now periods.now execs.now asks.now) given }
 {
     let mut t = basics::most(lowest(own), given);
     let mut n: u64 = 1;
     loop {
-        let next = terms::apply(own, from, periods, jitters, invs, execs, asks, t);
+        let next = terms::apply(own, from, periods, invs, execs, asks, t);
         if next.time == t {
             let by = next.by;
             return Climbed {

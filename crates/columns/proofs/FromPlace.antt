@@ -6,11 +6,10 @@ use native.Mathlib.Nat.{not-suc-le-zero, le_of_suc-le-suc}
 use native.Mathlib.Omega.{arith}
 use lib.ListN.{length, get_or}
 use Rattle.rules.specs.declared.Task.{Task}
-use Rattle.laws.specs.Idioms.{sum_over}
-use Rattle.rules.specs.Tasks.{T, J, releases, no_task}
+use Rattle.laws.specs.Idioms.{◌/↑◌, sum_over}
+use Rattle.rules.specs.Tasks.{T, no_task}
 use Rattle.facts.specs.Sound.{SoundTask}
-use Rattle.facts.proofs.Releases.{releases_are}
-use Rattle.counts.specs.Counts.{sum_below, sum_from, spans_of, released, asked_by, Slots}
+use Rattle.counts.specs.Counts.{sum_below, sum_from, released, asked_by, Slots}
 use Rattle.counts.proofs.Sums.{below-same}
 
 -- from place a on stands the figure f of some tasks
@@ -33,23 +32,22 @@ member_at [] j d h = absurd (not-suc-le-zero h)
 member_at (x ∷ l) zero d h = Memᴰ.head refl
 member_at (x ∷ l) (suc j) d h = Memᴰ.tail (member_at l j d (le_of_suc-le-suc h))
 
-module _ {f : Task → ℕ} {l : List Task} {a e : ℕ} {periods jitters costs : List ℕ} (p : From T l a periods) (late : From J l a jitters) (x : From f l a costs)
+module _ {f : Task → ℕ} {l : List Task} {a e : ℕ} {spans costs : List ℕ} (p : From T l a spans) (x : From f l a costs)
     (ends : e ≡ a + length l) where
-  pub asked_is : (carried t : ℕ) → asked_by carried t a e (spans_of periods jitters) costs ≡ sum_over l (λ j. (releases j t + carried) * f j)
+  pub asked_is : (carried t : ℕ) → asked_by carried t a e spans costs ≡ sum_over l (λ j. (t /↑ T j + carried) * f j)
   unfolding sum_from released
   asked_is carried t =
       let many : e - a ≡ length l = omega arith in
       rw many
-      (below-same _ (λ j. (releases (get_or l j no_task) t + carried) * f (get_or l j no_task)) (length l) (λ j h. rw (p.each j h, late.each j h, x.each j h, releases_are (get_or l j no_task) t))
-      ∙ below-list (λ i. (releases i t + carried) * f i) l)
+      (below-same _ (λ j. (t /↑ T (get_or l j no_task) + carried) * f (get_or l j no_task)) (length l) (λ j h. rw (p.each j h, x.each j h))
+      ∙ below-list (λ i. (t /↑ T i + carried) * f i) l)
 
   pub slots_are : {cores highest : ℕ} → e ≤ 32 → ((j : Task) → Memᴰ j l → SoundTask cores j) → ((j : Task) → SoundTask cores j → f j ≤ highest)
-      → Slots highest a e (spans_of periods jitters) costs
+      → Slots highest a e spans costs
   slots_are {cores} few sound high =
       let back : (i : ℕ) → a ≤ i → a + (i - a) ≡ i = λ i low. omega arith in
       let task : (i : ℕ) → a ≤ i → i < e → SoundTask cores (get_or l (i - a) no_task) = λ i low h. sound _ (member_at l (i - a) no_task (omega arith)) in
       record {
         bounded = record { rises = omega arith; few = few; cost = λ i low h. rw (rw (back i low) at (x.each (i - a) (omega arith))) (high _ (task i low h)) };
         period = λ i low h. rw (rw (back i low) at (p.each (i - a) (omega arith))) (task i low h).T_in;
-        jitter = λ i low h. let j = task i low h in rw (rw (back i low) at (late.each (i - a) (omega arith))) (omega (arith, j.J-high, j.D_in.high, j.T_in.high));
       }

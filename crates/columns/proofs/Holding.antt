@@ -78,15 +78,14 @@ module _ (t : Table) (s : Sound t) {l : Lent} (o : Held t l) where
   count_is : (q : ℕ) → length (tasks_on t q) ≡ length (places_on l.core q t.tasks)
   count_is q = rw (on_is q) (length-map (places_on l.core q t.tasks) (task_in t))
 
-  grouped : Grouped t l.begins l.periods l.jitters l.execs l.asks
+  grouped : Grouped t l.begins l.periods l.execs l.asks
   grouped q here =
       let g = o.ordered.each q here in
       record {
         next = omega (arith, g.next, count_is (q + 1));
         few = omega (arith, g.few, s.tasks-in.high);
-        period = rw (on_is (q + 1)) (from_places o.columns.period q t.tasks here (le_refl t.tasks));
-        jitter = rw (on_is (q + 1)) (from_places o.columns.jitter q t.tasks here (le_refl t.tasks));
-        request = rw (on_is (q + 1)) (from_places o.columns.request q t.tasks here (le_refl t.tasks));
+        periods = rw (on_is (q + 1)) (from_places o.columns.periods q t.tasks here (le_refl t.tasks));
+        requests = rw (on_is (q + 1)) (from_places o.columns.requests q t.tasks here (le_refl t.tasks));
       }
 
   module _ (i : ℕ) (here : i < t.tasks) where
@@ -143,27 +142,26 @@ module _ (t : Table) (s : Sound t) {l : Lent} (o : Held t l) where
     above_of : {f : Task → ℕ} {column : List ℕ} → InOrder f t.task t.tasks o.order column → From f (higher t (i + 1)) first column
     above_of c = rw higher_is (rw back at (from_places c (own - 1) i there (omega arith)))
 
-    above : Above t (i + 1) first (place_at l i) l.periods l.jitters l.execs l.asks
+    above : Above t (i + 1) first (place_at l i) l.periods l.execs l.asks
     above =
         record {
           ends = ends;
           few = place_low;
-          period = above_of o.columns.period;
-          jitter = above_of o.columns.jitter;
-          exec = above_of o.columns.exec;
-          request = above_of o.columns.request;
+          periods = above_of o.columns.periods;
+          execs = above_of o.columns.execs;
+          requests = above_of o.columns.requests;
         }
 
     cost_is : entry no_costs l.board.costs own ≡ costs_of t own
     unfolding all_costs costs_of
     cost_is = rw o.board_is (place_of no_costs (costs_of t) 8 t.cores own own_in.low own_in.high)
 
-    terms_are : terms_at l i ≡ terms_for t (i + 1) first (place_at l i) l.begins l.periods l.jitters l.execs l.asks
+    terms_are : terms_at l i ≡ terms_for t (i + 1) first (place_at l i) l.begins l.periods l.execs l.asks
     terms_are =
-        rw (core_is, less, own-figure o.columns.exec, own-figure o.columns.request, o.per_task.latest_is i here, own_is, cost_is)
+        rw (core_is, less, own-figure o.columns.execs, own-figure o.columns.requests, o.per_task.latest_is i here, own_is, cost_is)
         (ap
         (λ (b : Priced).
-        terms_of (own_with (C (task_in t i)) (H (task_in t i)) (latest (task_in t i)) (costs_of t own).request (others_with b.cores (costs_of t own).weight (twice_on l.begins l.asks)) first (place_at l i)) l.begins l.periods l.jitters l.execs l.asks)
+        terms_of (own_with (C (task_in t i)) (H (task_in t i)) (latest (task_in t i)) (costs_of t own).request (others_with b.cores (costs_of t own).weight (twice_on l.begins l.asks)) first (place_at l i)) l.begins l.periods l.execs l.asks)
         o.board_is)
 
     of_ready : (start : ℕ) → start ≤ get_or l.latest i 0 → Ready (terms_at l i) start

@@ -11,4 +11,4 @@ pub record Held (t : Table) (l : Lent) : Type 0 where
   pub per_task : PerTask t.task t.tasks l.core l.latest
   pub order : List ℕ
   pub ordered : Ordered t.cores t.tasks l.core l.begins order
-  pub columns : Columns t.task t.tasks order l.periods l.jitters l.execs l.asks
+  pub columns : Columns t.task t.tasks order l.periods l.execs l.asks

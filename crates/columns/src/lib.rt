@@ -39,20 +39,19 @@ fn laid(
     core: &mut [u8; 32],
     latest: &mut [u64; 32],
     from: &mut [usize; 9],
-    periods: &mut [u64; 33],
-    jitters: &mut [u64; 33],
+    spans: &mut [u64; 33],
     costs: &mut [u64; 33],
     asks: &mut [u64; 33],
 ) -> Priced
     requires sound { Sound t × (length core.old ≡ 32) × (length latest.old ≡ 32) }
-    requires periods_len { (length periods.old ≡ 33) × (length jitters.old ≡ 33) × (length costs.old ≡ 33) × (length asks.old ≡ 33) }
-    ensures { Held t (lent_of result core.new latest.new from.new periods.new jitters.new costs.new asks.new) }
+    requires spans_len { (length spans.old ≡ 33) × (length costs.old ≡ 33) × (length asks.old ≡ 33) }
+    ensures { Held t (lent_of result core.new latest.new from.new spans.new costs.new asks.new) }
 {
     table_columns::per_task(t, core, latest);
     let board = priced(t);
     let mut order = [0usize; 33];
     *from = groups::grouped(board.tasks, board.cores, core, &mut order);
-    table_columns::columns(t, &order, periods, jitters, costs, asks);
+    table_columns::columns(t, &order, spans, costs, asks);
     board
 }
 
@@ -64,19 +63,18 @@ fn judge_at(
     core: &[u8; 32],
     latest: &[u64; 32],
     from: &[usize; 9],
-    periods: &[u64; 33],
-    jitters: &[u64; 33],
+    spans: &[u64; 33],
     costs: &[u64; 33],
     asks: &[u64; 33],
 ) -> Climbed
     ghost l: { Lent }
-    requires asks_value { lent_of board core.now latest.now from.now periods.now jitters.now costs.now asks.now ≡ l }
+    requires asks_value { lent_of board core.now latest.now from.now spans.now costs.now asks.now ≡ l }
     requires judgeable { Judgeable l }
     requires i_lt_tasks { (i < l.board.tasks) × (start ≤ get_or l.latest i 0) }
     ensures { result ≡ climbed (terms_at l i) start }
 {
     let mut invs = [0u64; 33];
-    releases::inverses(board.tasks, periods, &mut invs);
+    releases::inverses(board.tasks, spans, &mut invs);
     let p = (core[i] as usize) - 1;
     let place = standing::place(i, from[p], core);
     let cost = board.costs[p];
@@ -93,7 +91,7 @@ fn judge_at(
         costs,
         asks,
     );
-    climb::settle(own, from, periods, jitters, &invs, costs, asks, start)
+    climb::settle(own, from, spans, &invs, costs, asks, start)
 }
 
 // Task number k of an accepted table, from a start that is not late.
@@ -105,8 +103,7 @@ pub fn judge_task(table: Table, k: u8, start: u64) -> Climbed
     let mut core = [0u8; 32];
     let mut latest = [0u64; 32];
     let mut from = [0usize; 9];
-    let mut periods = [0u64; 33];
-    let mut jitters = [0u64; 33];
+    let mut spans = [0u64; 33];
     let mut costs = [0u64; 33];
     let mut asks = [0u64; 33];
     let board = laid(
@@ -114,14 +111,13 @@ pub fn judge_task(table: Table, k: u8, start: u64) -> Climbed
         &mut core,
         &mut latest,
         &mut from,
-        &mut periods,
-        &mut jitters,
+        &mut spans,
         &mut costs,
         &mut asks,
     );
     let i = (k as usize) - 1;
     judge_at(
-        board, i, start, &core, &latest, &from, &periods, &jitters, &costs, &asks,
+        board, i, start, &core, &latest, &from, &spans, &costs, &asks,
     )
 }
 
@@ -133,8 +129,7 @@ pub fn judge_tasks(table: Table, starts: [u64; 32]) -> AllJudged
     let mut core = [0u8; 32];
     let mut latest = [0u64; 32];
     let mut from = [0usize; 9];
-    let mut periods = [0u64; 33];
-    let mut jitters = [0u64; 33];
+    let mut spans = [0u64; 33];
     let mut costs = [0u64; 33];
     let mut asks = [0u64; 33];
     let board = laid(
@@ -142,12 +137,9 @@ pub fn judge_tasks(table: Table, starts: [u64; 32]) -> AllJudged
         &mut core,
         &mut latest,
         &mut from,
-        &mut periods,
-        &mut jitters,
+        &mut spans,
         &mut costs,
         &mut asks,
     );
-    rounds::judge_lent(
-        board, &core, &latest, &starts, &from, &periods, &jitters, &costs, &asks,
-    )
+    rounds::judge_lent(board, &core, &latest, &starts, &from, &spans, &costs, &asks)
 }

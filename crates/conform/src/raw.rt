@@ -33,21 +33,19 @@ fn figures(s: &[u8], at: usize, into: &mut [u16])
     }
 }
 
-// 37 bytes: core 1, C 8, T 8, D 8, H 4, J 8.
+// 37 bytes: core 1, C 8, T 8, D 8, H 4, J 8, of which J is not looked at yet.
 fn task(s: &[u8], at: usize) -> Task
     requires { at + 37 ≤ length s.now }
 {
     let exec = bytes::le64(s, at + 1);
     let period = bytes::le64(s, at + 9);
     let deadline = bytes::le64(s, at + 17);
-    let jitter = bytes::le64(s, at + 29);
     Task {
         core: s[at],
         exec: Picos(exec),
         period: Picos(period),
         deadline: Picos(deadline),
         requests: bytes::le32(s, at + 25),
-        jitter: Picos(jitter),
     }
 }
 

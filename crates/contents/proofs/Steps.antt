@@ -15,7 +15,7 @@ use Rattle.laws.specs.Idioms.{filled}
 use Rattle.laws.proofs.Fill.{fill_step}
 use Rattle.laws.proofs.Tests.{and_false}
 use Rattle.laws.proofs.Runs.{map-up_to-next, length-map-from}
-use Rattle.facts.proofs.Places.{records-are, record-within, after-sets}
+use Rattle.places.proofs.Places.{records-are, record-within, after-sets}
 use Rattle.contents.specs.Tasks.{tasks_to}
 
 -- 5 is given from the counts alone

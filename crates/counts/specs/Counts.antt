@@ -10,31 +10,20 @@ sum_below f (suc n) = sum_below f n + f n
 unfoldable pub sum_from : (ℕ → ℕ) → ℕ → ℕ → ℕ
 sum_from f a e = sum_below (λ j. f (a + j)) (e - a)
 
--- T and J of tasks, by place; and the releases in t of the task in place i (RULES 5.1)
-pub record Spans : Type 0 where
-  pub periods : List ℕ
-  pub jitters : List ℕ
-
-abbrev pub spans_of : List ℕ → List ℕ → Spans
-spans_of periods jitters = record { periods = periods; jitters = jitters }
-
-abbrev pub releases_at : Spans → ℕ → ℕ → ℕ
-releases_at spans t i = (t + get_or spans.jitters i 0) /↑ get_or spans.periods i 0
-
--- a cost for each release of it, and for one job more where one is carried in (RULES 4.5)
-unfoldable pub released : ℕ → ℕ → Spans → List ℕ → ℕ → ℕ
-released carried t spans costs i = (releases_at spans t i + carried) * get_or costs i 0
+-- a cost for each release of the task in place i (RULES 5.1), and for one job more where one is carried in (RULES 4.5)
+unfoldable pub released : ℕ → ℕ → List ℕ → List ℕ → ℕ → ℕ
+released carried t periods costs i = (t /↑ get_or periods i 0 + carried) * get_or costs i 0
 
 -- a cost for each release after the first
-unfoldable pub later_of : ℕ → Spans → List ℕ → ℕ → ℕ
-later_of t spans costs i = (releases_at spans t i - 1) * get_or costs i 0
+unfoldable pub later_of : ℕ → List ℕ → List ℕ → ℕ → ℕ
+later_of t periods costs i = (t /↑ get_or periods i 0 - 1) * get_or costs i 0
 
 -- two jobs of the task in place i
 unfoldable pub twice_of : List ℕ → ℕ → ℕ
 twice_of costs i = 2 * get_or costs i 0
 
-abbrev pub asked_by : ℕ → ℕ → ℕ → ℕ → Spans → List ℕ → ℕ
-asked_by carried t a e spans costs = sum_from (released carried t spans costs) a e
+abbrev pub asked_by : ℕ → ℕ → ℕ → ℕ → List ℕ → List ℕ → ℕ
+asked_by carried t a e periods costs = sum_from (released carried t periods costs) a e
 
 -- a sum over places a to e, with at most so much in each
 pub record Summed (highest : ℕ) (f : ℕ → ℕ) (a e r : ℕ) : Type 0 where
@@ -47,8 +36,7 @@ pub record Bounded (highest a e : ℕ) (costs : List ℕ) : Type 0 where
   pub few : e ≤ 32
   pub cost : (i : ℕ) → a ≤ i → i < e → get_or costs i 0 ≤ highest
 
--- and beside them periods and jitters of accepted tasks
-pub record Slots (highest a e : ℕ) (spans : Spans) (costs : List ℕ) : Type 0 where
+-- and beside them periods of accepted tasks
+pub record Slots (highest a e : ℕ) (periods costs : List ℕ) : Type 0 where
   pub bounded : Bounded highest a e costs
-  pub period : (i : ℕ) → a ≤ i → i < e → Within (10 ^ 8) (10 ^ 12) (get_or spans.periods i 0)
-  pub jitter : (i : ℕ) → a ≤ i → i < e → get_or spans.jitters i 0 ≤ 10 ^ 12
+  pub period : (i : ℕ) → a ≤ i → i < e → Within (10 ^ 8) (10 ^ 12) (get_or periods i 0)

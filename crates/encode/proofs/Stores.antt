@@ -11,8 +11,8 @@ use Rattle.rules.specs.File.{sets_at, recordsAt, recordSize, file_length, record
 use Rattle.laws.specs.Idioms.{joined, bytes_of}
 use Rattle.laws.proofs.Bytes.{bytes-length}
 use Rattle.laws.proofs.Runs.{sets-after, joined_length, joined-take}
-use Rattle.facts.proofs.Places.{records-are}
-use Rattle.facts.proofs.Sizes.{record-length}
+use Rattle.places.proofs.Places.{records-are}
+use Rattle.records.proofs.Record.{record-length}
 use Rattle.encode.specs.Counts.{counts}
 
 -- a table's arrays, and counts that they have room for

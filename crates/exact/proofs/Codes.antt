@@ -2,28 +2,27 @@
 use mathlib.Core.Path.{◌≡◌, refl}
 use mathlib.Core.Bool.{Bool, true, false, cond}
 use mathlib.Core.List.{List}
-use Prim.Native.Nat.{ℕ, ◌+◌, ◌*◌, ◌-◌, ◌/◌, ◌%◌, ◌<◌, ◌≤◌, zero-le, suc-le-suc}
+use Prim.Native.Nat.{ℕ, ◌+◌, ◌*◌, ◌/◌, ◌%◌, ◌<◌, ◌≤◌, zero-le, suc-le-suc}
 use native.Mathlib.Decide.{ℕ_discrete}
 use native.Mathlib.Omega.{arith}
 use lib.ListN.{length}
-use borrow.Author.Tests.{eqb-true, eqb-false, eq-eqb, ne_eqb}
+use borrow.Author.Tests.{eqb-false, eq-eqb, ne_eqb}
 use Rattle.rules.specs.declared.Refusal.{Refusal}
 use Rattle.rules.specs.declared.Salvaged.{Salvaged}
 use Rattle.rules.specs.Chain.{◌or_else◌, is_accepted}
 use Rattle.rules.specs.Listing.{table_lines, refused_line, listing}
-use Rattle.rules.specs.File.{form_in, cores_in, tasks_in, recordSize, recordAt, decode}
+use Rattle.rules.specs.File.{form_in, cores_in, tasks_in, decode}
 use Rattle.rules.specs.Operations.{check_file, check_to_judge, read_to_judge, check_view, check_both, is_carried, rejudging}
 use Rattle.facts.proofs.Chain.{both-accepted}
 use Rattle.facts.proofs.Accepted.{sound}
 use Rattle.facts.proofs.Reading.{decoded_accepted}
 use Rattle.facts.proofs.ToJudge.{judged-table}
-use Rattle.facts.proofs.Places.{sets-limit, after-sets, record-within, length_is, length-limit}
-use Rattle.view.proofs.Viewing.{viewed_task}
+use Rattle.places.proofs.Places.{sets-limit, after-sets}
 use Rattle.plain.specs.Codes.{code_of, salvage_code}
 use Rattle.stored.specs.Stored.{check_outputs}
 use Rattle.recarry.specs.declared.CarryRefusal.{CarryRefusal}
 use Rattle.recarry.specs.Files.{table_number, check_files, faulty_file, check_carry, carry_refusal, carry_code, files_worsen}
-use Rattle.shown.specs.Shown.{task_count, recordTold}
+use Rattle.shown.specs.Shown.{task_count, recordPlace}
 use Rattle.shown.proofs.Shown.{tasks-there, record-there}
 
 -- ryb_read, ryb_judge and ryb_view: nothing is refused
@@ -71,21 +70,6 @@ module _ (r : Salvaged) where
   unfolding salvage_code
   salvage_refusal_back h g e = rw e (omega arith, omega arith)
 
--- RYB_OFFSET and RYB_SIZE give back where a record that ryb_view shows starts, and how many bytes it has
-module _ (s : List ℕ) (k : ℕ) (shown : is_accepted (check_view s k) ≡ true) where
-  place_fits : recordAt (form_in s) (cores_in s) k < 65536
-  unfolding check_view decode
-  place_fits =
-      let read = (both-accepted (check_file s) _ shown).0 in
-      let facts = sound (decode s) (decoded_accepted s read) in
-      let asked = viewed_task s k shown in
-      let e : k - 1 + 1 ≡ k = omega arith in
-      let inside = rw e at (record-within (form_in s) (cores_in s) (k - 1) (tasks_in s) (omega arith)) in
-      omega (arith, facts.cores-in.high, facts.tasks-in.high, length_is (form_in s) (cores_in s) (tasks_in s), length-limit (form_in s) (cores_in s) (tasks_in s))
-
-  pub record-parts-back : (recordTold s k % 65536 ≡ recordAt (form_in s) (cores_in s) k) × (recordTold s k / 65536 ≡ recordSize (form_in s))
-  record-parts-back = rw (record-there s k (eqb-true _ _ shown)) (omega (arith, place_fits), omega (arith, place_fits))
-
 -- ryb_worsens says whether ryb_carry begins at the older bounds
 pub worsens-carried : (older newer : List ℕ) → is_accepted (check_files older newer) ≡ true
     → files_worsen older newer ≡ (rejudging (decode older) (decode newer)).carried
@@ -105,8 +89,8 @@ zero_no_tasks s e = go (ℕ_discrete (check_file s).number 0)
     go (yes passes) = absurd (omega (arith, tasks-there s passes, (sound (decode s) (decoded_accepted s (eq-eqb _ _ passes))).tasks-in.low))
     go (no refused) = ne_eqb _ _ refused
 
--- ryb_record: the view is refused, as no record starts there and none has no bytes
-pub zero_no_record : (s : List ℕ) (k : ℕ) → recordTold s k ≡ 0 → is_accepted (check_view s k) ≡ false
+-- ryb_record: the view is refused, as no record starts there
+pub zero_no_record : (s : List ℕ) (k : ℕ) → recordPlace s k ≡ 0 → is_accepted (check_view s k) ≡ false
 zero_no_record s k e = go (ℕ_discrete (check_view s k).number 0)
   where
     go : Dec ((check_view s k).number ≡ 0) → is_accepted (check_view s k) ≡ false

@@ -1,15 +1,15 @@
 -- What the checks of a board leave of it; and an accepted table is sound: one law, so that nobody opens the checks again. Assumes nothing.
 use mathlib.Core.Path.{◌≡◌}
-use mathlib.Core.Bool.{true, false, not, ◌&&◌, ◌||◌}
+use mathlib.Core.Bool.{true, false, not, ◌&&◌}
 use Prim.Native.Nat.{ℕ, ◌≤◌, ◌<◌, ◌^◌}
 use native.Mathlib.Omega.{arith}
 use lib.Dec.{ltb, eqb}
-use borrow.Author.Tests.{ltb-true, ltb-false, eqb-true, eqb-false, not-false}
+use borrow.Author.Tests.{ltb-true, ltb-false, eqb-false, not-false}
 use Rattle.rules.specs.declared.Table.{Table}
 use Rattle.rules.specs.declared.Refusal.{Refusal}
-use Rattle.rules.specs.Tasks.{C, T, D, H, J, latest, task_of}
+use Rattle.rules.specs.Tasks.{C, T, D, H, task_of}
 use Rattle.rules.specs.Cores.{set_of}
-use Rattle.rules.specs.Kinds.{says_jitter, fourth_allowed}
+use Rattle.rules.specs.Kinds.{fourth_allowed}
 use Rattle.rules.specs.Chain.{is_accepted, ◌or_else◌, given, first}
 use Rattle.rules.specs.Refusals.{counts_fault, check_row, set_fault, core_fault, time_fault, request_fault, board_refusal, tasks_refusal, check_board, check_tasks, check_table}
 use Rattle.facts.specs.Sound.{SoundTask, Sound}
@@ -38,16 +38,16 @@ module _ (t : Table) (board-passed : is_accepted (check_board t) ≡ true) where
   first-links : (is_accepted counts_link ≡ true) × (is_accepted row_link ≡ true)
   first-links = both-accepted counts_link row_link board-links.0
 
-  counts-hold : within 1 8 t.cores && within 1 16 t.partitions && within 1 32 t.tasks && ltb t.fourth 8 ≡ true
+  counts-hold : within 1 8 t.cores && within 1 16 t.partitions && within 1 32 t.tasks && ltb t.fourth 4 ≡ true
   unfolding counts_link counts_fault fourth_allowed
   counts-hold = not-false _ (no_fault 4 0 (counts_fault t.cores t.partitions t.tasks t.fourth) first-links.0)
 
-  pub counts : (Within 1 8 t.cores × Within 1 16 t.partitions) × (Within 1 32 t.tasks × (t.fourth < 8))
+  pub counts : (Within 1 8 t.cores × Within 1 16 t.partitions) × (Within 1 32 t.tasks × (t.fourth < 4))
   counts =
       let fourth = and_both _ _ counts-hold in
       let tasks = and_both _ _ fourth.0 in
       let rest = and_both _ _ tasks.0 in
-      ((inside 1 8 _ rest.0, inside 1 16 _ rest.1), (inside 1 32 _ tasks.1, ltb-true t.fourth 8 fourth.1))
+      ((inside 1 8 _ rest.0, inside 1 16 _ rest.1), (inside 1 32 _ tasks.1, ltb-true t.fourth 4 fourth.1))
 
   module _ (p : ℕ) (low : 1 ≤ p) (high : p ≤ t.cores) where
     set-clear : (eqb (set_of t p) 0 ≡ false) × (not (ltb (set_of t p) (2 ^ t.partitions)) ≡ false)
@@ -80,7 +80,7 @@ module _ (t : Table) (passed : is_accepted (check_table t) ≡ true) where
   core_link = first 9 (λ k. core_fault t.cores (task_of t k)) t.tasks
 
   time_link : Refusal
-  time_link = first 10 (λ k. time_fault t.fourth (task_of t k)) t.tasks
+  time_link = first 10 (λ k. time_fault (task_of t k)) t.tasks
 
   request_link : Refusal
   request_link = first 11 (λ k. request_fault (task_of t k)) t.tasks
@@ -94,10 +94,9 @@ module _ (t : Table) (passed : is_accepted (check_table t) ≡ true) where
     unfolding core_link core_fault
     core-holds = not-false _ (none_first 8 (λ k. core_fault t.cores (task_of t k)) t.tasks (both-accepted core_link time_link task-links.0).0 k low high)
 
-    times_hold : (within (10 ^ 8) (10 ^ 12) (T (task_of t k)) && within 1 (T (task_of t k)) (D (task_of t k)) && ltb (J (task_of t k)) (D (task_of t k)) && within 1 (latest (task_of t k)) (C (task_of t k)) ≡ true)
-        × (says_jitter t.fourth || eqb (J (task_of t k)) 0 ≡ true)
+    times_hold : within (10 ^ 8) (10 ^ 12) (T (task_of t k)) && within 1 (T (task_of t k)) (D (task_of t k)) && within 1 (D (task_of t k)) (C (task_of t k)) ≡ true
     unfolding time_link time_fault
-    times_hold = and_both _ _ (not-false _ (none_first 9 (λ k. time_fault t.fourth (task_of t k)) t.tasks (both-accepted core_link time_link task-links.0).1 k low high))
+    times_hold = not-false _ (none_first 9 (λ k. time_fault (task_of t k)) t.tasks (both-accepted core_link time_link task-links.0).1 k low high)
 
     requests_fit : ltb 1000000 (H (task_of t k)) ≡ false
     unfolding request_link request_fault
@@ -105,20 +104,15 @@ module _ (t : Table) (passed : is_accepted (check_table t) ≡ true) where
 
     task-facts : SoundTask t.cores (task_of t k)
     task-facts =
-        let exec = and_both _ _ times_hold.0 in
-        let jitter = and_both _ _ exec.0 in
-        let period = and_both _ _ jitter.0 in
+        let exec = and_both _ _ times_hold in
+        let period = and_both _ _ exec.0 in
         record {
           core_in = inside _ _ _ core-holds;
           T_in = inside _ _ _ period.0;
           D_in = inside _ _ _ period.1;
-          J-high = ltb-true _ _ jitter.1;
           C_in = inside _ _ _ exec.1;
           H-high = ltb-false _ _ requests_fit;
         }
-
-    jitter_stated : says_jitter t.fourth ≡ false → J (task_of t k) ≡ 0
-    jitter_stated none = eqb-true _ _ (rw none at times_hold.1)
 
   pub sound : Sound t
   sound =
@@ -128,12 +122,11 @@ module _ (t : Table) (passed : is_accepted (check_table t) ≡ true) where
         cores-in = places.0;
         partitions-in = places.1;
         tasks-in = rest.0;
-        fourth_low = rest.1;
+        fourth-low = rest.1;
         figure-high = row-high t.fourth t.timing row;
         row = λ dram. sound-row t.timing (is_dram t.fourth t.timing row dram);
         slot-in = λ bus. sound-slot t.timing (is_bus_lem t.fourth t.timing row bus);
         set-some = λ p low high. (set-facts t board-passed p low high).0;
         set-high = λ p low high. (set-facts t board-passed p low high).1;
         task-sound = task-facts;
-        jitter-none = λ none k low high. jitter_stated k low high none;
       }

@@ -47,7 +47,7 @@ module _ (older newer : Table) (was : is_accepted (check_table older) ≡ true) 
   pub carried-verdict : (judge newer k (older_bound older k)).verdict ≡ (judge newer k 0).verdict
   unfolding judge rounds_of
   carried-verdict =
-      let high' : k ≤ older.tasks = rw (worsened older newer worse).harder.board.tasks high in
+      let high' : k ≤ older.tasks = rw (worsened older newer worse).board.tasks high in
       ap (with_delay (decider newer k)) (right_unique (carries older newer was is worse k low high').right (fresh-right newer is k low high))
 
 pub rejudged_verdicts : (older newer : Table) → is_accepted (check_both older newer) ≡ true

@@ -1,6 +1,6 @@
 -- The starts of all tasks together: where none is refused all are answered, and so it is of fresh starts, and of all older bounds where the newer
 -- table is the older one worsened. Assumes nothing.
-use mathlib.Core.Path.{◌≡◌}
+use mathlib.Core.Path.{◌≡◌, refl, ap, ◌∙◌}
 use mathlib.Core.Bool.{true, false}
 use mathlib.Core.List.{List, map}
 use Prim.Native.Nat.{ℕ, ◌-◌, ◌≤◌}
@@ -95,7 +95,7 @@ bounds_of_answers t = map-filled (λ (a : Answer). bound_of a.verdict) (λ k. ju
 module _ (older newer : Table) (was : is_accepted (check_table older) ≡ true) (is : is_accepted (check_table newer) ≡ true)
     (worse : worsens older newer ≡ true) where
   as_many : {k : ℕ} → k ≤ newer.tasks → k ≤ older.tasks
-  as_many h = rw (worsened older newer worse).harder.board.tasks h
+  as_many h = rw (worsened older newer worse).board.tasks h
 
   pub all-carried : AllAllowed newer (older_bounds older)
   all-carried k low high =

@@ -1,35 +1,33 @@
 -- The response equation of an accepted table is one that the theory asks for. Assumes nothing.
-use mathlib.Core.Path.{◌≡◌}
+use mathlib.Core.Path.{◌≡◌, refl}
 use mathlib.Core.Bool.{true}
 use mathlib.Core.Logic.{◌⊎◌, inl, inr}
 use mathlib.Core.List.Memᴰ
 use mathlib.Core.List.{List, [], ◌∷◌, map, Memᴰ}
-use Prim.Native.Nat.{ℕ, ◌-◌, ◌≤◌, zero-le}
+use Prim.Native.Nat.{ℕ, ◌-◌, ◌≤◌}
 use native.Mathlib.Omega.{arith}
 use Rattle.equation.specs.Equation.{Equation, renewals, most-rounds}
 use Rattle.rules.specs.declared.Task.{Task}
 use Rattle.rules.specs.declared.Table.{Table}
 use Rattle.rules.specs.Tasks.{T, releases, latest, task_of, core_of, higher, elsewhere}
 use Rattle.rules.specs.Board.{memory_of}
-use Rattle.facts.specs.Steady.{Slower, NoMore, counts_in, case_of, Fit, Worse}
+use Rattle.facts.specs.Steady.{Slower, counts_in, case_of, Fit, Worse}
 use Rattle.rules.specs.Response.{F}
 use Rattle.rules.specs.Judgement.{lowest}
 use Rattle.rules.specs.Others.{others, round_limit}
+use Rattle.rules.specs.Order.{worsens}
 use Rattle.rules.specs.Chain.{is_accepted}
 use Rattle.rules.specs.Refusals.{check_table}
 use Rattle.facts.specs.Sound.{SoundTask}
-use Rattle.facts.specs.Worsened.{Harder, Worsened}
+use Rattle.facts.specs.Worsened.{Worsened}
 use Rattle.facts.proofs.Accepted.{sound}
 use Rattle.facts.proofs.SoundTasks.{sound-higher, sound-elsewhere}
 use Rattle.laws.specs.Idioms.{sum_over}
-use Rattle.laws.specs.Pairs.{Paired}
 use Rattle.laws.proofs.Paired.{paired_map}
-use Rattle.facts.proofs.Releases.{releases_rise}
-use Rattle.facts.proofs.Latest.{latest-within}
 use Rattle.facts.proofs.Kept.{Kept, kept_no_more, kept, kept-higher}
-use Rattle.facts.proofs.Memory.{response_worse}
 use Rattle.facts.proofs.Cases.{case_equation}
 use Rattle.facts.proofs.Boards.{memory-steady, memory-slower}
+use Rattle.facts.proofs.Worsened.{worsened}
 
 module _ (t : Table) (accepted : is_accepted (check_table t) ≡ true) (k : ℕ) (low : 1 ≤ k) (high : k ≤ t.tasks) where
   own-sound : SoundTask t.cores (task_of t k)
@@ -54,47 +52,41 @@ module _ (t : Table) (accepted : is_accepted (check_table t) ≡ true) (k : ℕ)
   equation_of_lem = case_equation (case_of t k) case_fit
 
   pub lowest-fits : lowest t k ≤ latest (task_of t k)
-  unfolding lowest
+  unfolding lowest latest
   lowest-fits = own-sound.C_in.high
 
--- the limit on the rounds, as RULES 6.7 has it: up to the latest allowed response no count goes up more often than within the deadline
-renewals-within : {d e : ℕ} → d ≤ e → (js : List Task) → renewals d (map releases js) ≤ sum_over js (λ j. releases j e - 1)
+-- the limit on the rounds, as RULES 6.7 has it
+renewals_of : (d : ℕ) (js : List Task) → renewals d (map releases js) ≡ sum_over js (λ j. releases j d - 1)
 unfolding renewals
-renewals-within h [] = zero-le
-renewals-within {d} {e} h (j ∷ js) = omega (arith, releases_rise j d e h, renewals-within h js)
+renewals_of d [] = refl
+renewals_of d (j ∷ js) = omega (arith, renewals_of d js)
 
-pub limit-within : (t : Table) (k : ℕ) → most-rounds (latest (task_of t k)) (counts_in (case_of t k)) ≤ round_limit t k
-limit-within t k = omega (arith, renewals-within (latest-within (task_of t k)) (others t k))
+pub limit_of : (t : Table) (k : ℕ) → most-rounds (latest (task_of t k)) (counts_in (case_of t k)) ≡ round_limit t k
+limit_of t k = omega (arith, renewals_of (latest (task_of t k)) (others t k))
 
--- a newer table that asks for no less
+-- a newer table that is the older one worsened
 module _ (older newer : Table) (was : is_accepted (check_table older) ≡ true) (is : is_accepted (check_table newer) ≡ true)
-    (harder : Harder older newer) (k : ℕ) (low : 1 ≤ k) (high : k ≤ older.tasks) where
+    (worse : worsens older newer ≡ true) (k : ℕ) (low : 1 ≤ k) (high : k ≤ older.tasks) where
+  facts : Worsened older newer
+  facts = worsened older newer worse
+
   own-kept : Kept older.cores (task_of older k) (task_of newer k)
-  own-kept = kept older newer (sound older was) (sound newer is) harder k low high
+  own-kept = kept older newer (sound older was) (sound newer is) facts k low high
 
   own-slower : Slower (memory_of older (core_of older k)) (memory_of newer (core_of newer k))
   own-slower =
       let core = own-kept.was.core_in in
       rw (← own-kept.raised.core)
-      (memory-slower older newer (sound older was) (sound newer is) harder (core_of older k) core.low core.high)
+      (memory-slower older newer (sound older was) (sound newer is) facts (core_of older k) core.low core.high)
 
-  own-asks : (x : ℕ) → NoMore x x (task_of older k) (task_of newer k)
-  own-asks x = kept_no_more x (task_of older k) (task_of newer k) own-kept
+  pub case_worse : Worse (case_of older k) (case_of newer k)
+  unfolding latest
+  case_worse = record {
+    memory = own-slower;
+    own = λ x. kept_no_more x (task_of older k) (task_of newer k) own-kept;
+    others = λ x. paired_map (kept_no_more x) (kept-higher older newer (sound older was) (sound newer is) facts k low high);
+    latest = own-kept.raised.deadline;
+  }
 
-  higher_ask : (x : ℕ) → Paired (NoMore x x) (higher older k) (higher newer k)
-  higher_ask x = paired_map (kept_no_more x) (kept-higher older newer (sound older was) (sound newer is) harder k low high)
-
-  -- its F is nowhere below
-  pub F-more : (x : ℕ) → F older k x ≤ F newer k x
-  unfolding F
-  F-more x = response_worse own-slower (own-asks x) (higher_ask x)
-
--- and is the older one worsened
-pub case_worse : (older newer : Table) → is_accepted (check_table older) ≡ true → is_accepted (check_table newer) ≡ true → Worsened older newer
-    → (k : ℕ) → 1 ≤ k → k ≤ older.tasks → Worse (case_of older k) (case_of newer k)
-case_worse older newer was is worse k low high = record {
-  memory = own-slower older newer was is worse.harder k low high;
-  own = own-asks older newer was is worse.harder k low high;
-  others = higher_ask older newer was is worse.harder k low high;
-  latest = worse.latest k low high;
-}
+  pub number-stays : k ≤ newer.tasks
+  number-stays = omega (arith, facts.board.tasks)

@@ -1,4 +1,4 @@
--- The tasks of a table and of one that asks for no less, number by number: in any time the newer's ask for no less. Assumes nothing.
+-- The tasks of a table and of the same table worsened, number by number: in any time the newer asks for no less. Assumes nothing.
 use mathlib.Core.Bool.{not}
 use Prim.Native.Nat.{ℕ, suc, ◌-◌, ◌≤◌}
 use native.Mathlib.Omega.{arith}
@@ -9,9 +9,9 @@ use Rattle.rules.specs.declared.Table.{Table}
 use Rattle.rules.specs.Tasks.{no_task, task_of, core_of, is_on, higher, elsewhere}
 use Rattle.facts.specs.Steady.{NoMore}
 use Rattle.facts.specs.Sound.{SoundTask, Sound}
-use Rattle.facts.specs.Worsened.{Raised, Harder}
+use Rattle.facts.specs.Worsened.{Raised, Worsened}
 use Rattle.facts.proofs.SoundTasks.{task_at, tasks-there}
-use Rattle.facts.proofs.Releases.{releases-more}
+use Rattle.facts.proofs.Releases.{releases_shorter}
 use Rattle.laws.specs.Pairs.{Paired}
 use Rattle.laws.proofs.Paired.{paired_take, paired_those}
 
@@ -25,10 +25,10 @@ pub kept_no_more : (x : ℕ) {cores : ℕ} (i j : Task) → Kept cores i j → N
 kept_no_more x i j h = record {
   exec = h.raised.exec;
   requests = h.raised.requests;
-  often = releases-more i j h.raised.period h.raised.jitter (omega (arith, h.is.T_in.low)) x;
+  often = releases_shorter i j h.raised.period (omega (arith, h.is.T_in.low)) x;
 }
 
-module _ (older newer : Table) (was : Sound older) (is : Sound newer) (worse : Harder older newer) where
+module _ (older newer : Table) (was : Sound older) (is : Sound newer) (worse : Worsened older newer) where
   pub kept : (k : ℕ) → 1 ≤ k → k ≤ older.tasks → Kept older.cores (task_of older k) (task_of newer k)
   kept k low high = record {
     raised = worse.task k low high;

@@ -2,8 +2,6 @@
 --     Reading     what an accepted file is known to be
 --     Came        what refusals 1 to 4 leave of a file
 --     ToJudge     a file that is to be judged
---     Sizes       the size of a record by its form
---     Places      where records stand, one after the other, whatever their size
 --     First       the first place at fault
 --     Chain       a chain of refusals that gives none
 --     Rows        the figures of an accepted row
@@ -12,7 +10,6 @@
 --     Weights     DRAM's job delay by core
 --     Priced      the job delay at any prices
 --     Releases    the releases of a task are a count
---     Latest      the latest allowed response
 --     Memory      the response equation over any steady memory
 --     Cases       points 2 and 3 of a task over any memory
 --     Worsened    the test of a table worsened, taken apart
@@ -34,12 +31,9 @@ pub mod Accepted
 pub mod Reading
 pub mod Came
 pub mod ToJudge
-pub mod Sizes
-pub mod Places
 pub mod SoundTasks
 pub mod Weights
 pub mod Releases
-pub mod Latest
 pub mod Priced
 pub mod Memory
 pub mod Cases

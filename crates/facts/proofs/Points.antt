@@ -19,9 +19,7 @@ use Rattle.rules.specs.Operations.{older_bound}
 use Rattle.facts.proofs.Starts.{Judgeable, judged-accepted}
 use Rattle.facts.specs.Steady.{counts_in, case_of}
 use Rattle.facts.proofs.Cases.{case_fresh, case_start, case_carried}
-use Rattle.facts.specs.Worsened.{Worsened}
-use Rattle.facts.proofs.Worsened.{worsened}
-use Rattle.facts.proofs.Instance.{case_fit, limit-within, case_worse}
+use Rattle.facts.proofs.Instance.{case_fit, limit_of, case_worse, number-stays}
 
 module _ (t : Table) (accepted : is_accepted (check_table t) ≡ true) (k : ℕ) (low : 1 ≤ k) (high : k ≤ t.tasks) where
   -- point 2: the verdict from a fresh start is the least solution from 1 to D, or that there is none
@@ -37,7 +35,7 @@ module _ (t : Table) (k start : ℕ) (j : Judgeable t k start) where
 
   pub start-limit : (rounds_of t k start).rounds ≤ round_limit t k
   unfolding rounds_of
-  start-limit = omega (arith, start_right.limit, limit-within t k)
+  start-limit = omega (arith, start_right.limit, limit_of t k)
 
 -- the start that the older bound gives
 bound-carried : (by : ℕ → Delay) (v : outcome.Outcome) → bound_of (with_delay by v) ≡ carried v
@@ -51,25 +49,19 @@ older_bound_lem t k = bound-carried (decider t k) (rounds_of t k 0).verdict
 -- point 3: from the older table's bound
 module _ (older newer : Table) (was : is_accepted (check_table older) ≡ true) (is : is_accepted (check_table newer) ≡ true)
     (worse : worsens older newer ≡ true) (k : ℕ) (low : 1 ≤ k) (high : k ≤ older.tasks) where
-  facts : Worsened older newer
-  facts = worsened older newer worse
-
-  number-stays : k ≤ newer.tasks
-  number-stays = omega (arith, facts.harder.board.tasks)
-
   pub carries : Carries (F newer k) (lowest newer k) (latest (task_of newer k)) (counts_in (case_of newer k)) (older_bound older k)
   unfolding F lowest rounds_of
   carries =
       rw (older_bound_lem older k)
       (case_carried (case_of older k) (case_of newer k)
       (case_fit older was k low high)
-      (case_fit newer is k low number-stays)
-      (case_worse older newer was is facts k low high))
+      (case_fit newer is k low (number-stays older newer was is worse k low high))
+      (case_worse older newer was is worse k low high))
 
   -- the start is not refused
   pub carried-judgeable : is_accepted (check_judged newer) ≡ true → Judgeable newer k (older_bound older k)
   carried-judgeable judged = record {
     judged = judged;
-    number = record { low = low; high = number-stays };
+    number = record { low = low; high = number-stays older newer was is worse k low high };
     allowed = carries.allowed;
   }

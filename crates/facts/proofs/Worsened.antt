@@ -1,37 +1,28 @@
 -- The test of a table worsened, taken apart: one law, so that nobody opens the test again. Assumes nothing.
-use mathlib.Core.Path.{◌≡◌, ap}
+use mathlib.Core.Path.{◌≡◌}
 use mathlib.Core.Bool.{true}
-use Prim.Native.Nat.{ℕ, ◌≤◌}
-use native.Mathlib.Nat.{le_of_eq}
 use borrow.Author.Tests.{leb-true, eqb-true}
 use Rattle.rules.specs.declared.Task.{Task}
 use Rattle.rules.specs.declared.Table.{Table}
-use Rattle.rules.specs.Tasks.{J, latest, task_of}
-use Rattle.rules.specs.Kinds.{says_bus}
 use Rattle.rules.specs.Order.{same_board, worse_task, worsens}
 use Rattle.facts.specs.Worsened.{Alike, Raised, Worsened}
-use Rattle.facts.proofs.Latest.{latest-same}
 use Rattle.laws.proofs.Members.{up_to_has}
 use Rattle.laws.proofs.Tests.{and_both, every_member}
 
-raised : (i j : Task) → worse_task i j ≡ true → Raised i j × (latest i ≡ latest j)
+raised : (i j : Task) → worse_task i j ≡ true → Raised i j
 unfolding worse_task
 raised i j e =
-    let (e₅, period) = and_both _ _ e in
-    let (e₄, requests) = and_both _ _ e₅ in
-    let (e₃, exec) = and_both _ _ e₄ in
-    let (e₂, jitter) = and_both _ _ e₃ in
+    let (e₄, period) = and_both _ _ e in
+    let (e₃, requests) = and_both _ _ e₄ in
+    let (e₂, exec) = and_both _ _ e₃ in
     let (core, deadline) = and_both _ _ e₂ in
-    let same : J i ≡ J j = eqb-true _ _ jitter in (
-      record {
-        core = eqb-true _ _ core;
-        exec = leb-true _ _ exec;
-        requests = leb-true _ _ requests;
-        period = leb-true _ _ period;
-        jitter = le_of_eq same;
-      },
-      latest-same i j (eqb-true _ _ deadline) same,
-    )
+    record {
+      core = eqb-true _ _ core;
+      deadline = eqb-true _ _ deadline;
+      exec = leb-true _ _ exec;
+      requests = leb-true _ _ requests;
+      period = leb-true _ _ period;
+    }
 
 alike : (a b : Table) → same_board a b ≡ true → Alike a b
 unfolding same_board
@@ -45,7 +36,7 @@ alike a b e =
       cores = eqb-true _ _ cores;
       partitions = eqb-true _ _ partitions;
       tasks = eqb-true _ _ tasks;
-      kind = ap says_bus (eqb-true _ _ fourth);
+      fourth = eqb-true _ _ fourth;
       figure = λ k low high. eqb-true _ _ (every_member _ figures (up_to_has 15 k low high));
       set = λ p low high. eqb-true _ _ (every_member _ sets (up_to_has a.cores p low high));
     }
@@ -54,8 +45,7 @@ pub worsened : (older newer : Table) → worsens older newer ≡ true → Worsen
 unfolding worsens
 worsened older newer e =
     let (board, tasks) = and_both _ _ e in
-    let each : (k : ℕ) → 1 ≤ k → k ≤ older.tasks → Raised (task_of older k) (task_of newer k) × (latest (task_of older k) ≡ latest (task_of newer k)) = λ k low high. raised _ _ (every_member _ tasks (up_to_has older.tasks k low high)) in
     record {
-      harder = record { board = alike older newer board; task = λ k low high. (each k low high).0 };
-      latest = λ k low high. (each k low high).1;
+      board = alike older newer board;
+      task = λ k low high. raised _ _ (every_member _ tasks (up_to_has older.tasks k low high));
     }

@@ -5,9 +5,9 @@ use Rattle.rules.specs.declared.Task.{Task}
 use Rattle.rules.specs.declared.Table.{Table}
 use Rattle.laws.specs.Idioms.{entry, Within}
 use Rattle.rules.specs.Timing.{Row, tCK, tRP, tRCD, CL, WL, BL, tWTR, tWR, tRRD, tFAW, tRTRS, Ncols}
-use Rattle.rules.specs.Tasks.{C, T, D, H, J, latest, task_of}
+use Rattle.rules.specs.Tasks.{C, T, D, H, task_of}
 use Rattle.rules.specs.Cores.{set_of}
-use Rattle.rules.specs.Kinds.{is_bus, says_jitter}
+use Rattle.rules.specs.Kinds.{is_bus}
 use Rattle.rules.specs.Bus.{slot}
 
 -- a DRAM's row
@@ -30,19 +30,17 @@ pub record SoundTask (cores : ℕ) (i : Task) : Type 0 where
   pub core_in : Within 1 cores i.core
   pub T_in : Within (10 ^ 8) (10 ^ 12) (T i)
   pub D_in : Within 1 (T i) (D i)
-  pub J-high : J i < D i
-  pub C_in : Within 1 (latest i) (C i)
+  pub C_in : Within 1 (D i) (C i)
   pub H-high : H i ≤ 1000000
 
 pub record Sound (t : Table) : Type 0 where
   pub cores-in : Within 1 8 t.cores
   pub partitions-in : Within 1 16 t.partitions
   pub tasks-in : Within 1 32 t.tasks
-  pub fourth_low : t.fourth < 8
+  pub fourth-low : t.fourth < 4
   pub figure-high : (k : ℕ) → 1 ≤ k → k ≤ 15 → entry 0 t.timing k ≤ 65535
   pub row : is_bus t ≡ false → SoundRow t.timing
   pub slot-in : is_bus t ≡ true → Within 1 65535 (slot t).0
   pub set-some : (p : ℕ) → 1 ≤ p → p ≤ t.cores → 1 ≤ set_of t p
   pub set-high : (p : ℕ) → 1 ≤ p → p ≤ t.cores → set_of t p < 2 ^ t.partitions
   pub task-sound : (k : ℕ) → 1 ≤ k → k ≤ t.tasks → SoundTask t.cores (task_of t k)
-  pub jitter-none : says_jitter t.fourth ≡ false → (k : ℕ) → 1 ≤ k → k ≤ t.tasks → J (task_of t k) ≡ 0

@@ -12,7 +12,7 @@ use Rattle.laws.specs.Idioms.{number_in, part}
 use Rattle.laws.proofs.Places.{place_of}
 use Rattle.laws.proofs.Parts.{part_length}
 use Rattle.laws.proofs.Runs.{map-below-next, length-map-from, sets-next}
-use Rattle.facts.proofs.Places.{sets-limit, records-are, records-limit, record-within, after-sets, length_is}
+use Rattle.places.proofs.Places.{record-limit, records-are, records-limit, record-within, after-sets, length_is}
 use Rattle.fields.specs.Places.{Sized, figures_in}
 
 module _ (s : List ℕ) where
@@ -24,22 +24,18 @@ module _ (s : List ℕ) where
       let f : ℕ → ℕ = λ k. number_in (part s (at + 2 * k) 2) in
       rw (map-below-next f i) (sets-next l (figures_in s at i) i (f i) (figures-length at i))
 
-  -- the part where record k starts, as code takes it, and how long that is
+  -- the part where record k starts, as code takes it; its figures are in it
   pub part_record : (a size k : ℕ) → a ≡ recordAt (form_in s) (cores_in s) k → size ≡ recordSize (form_in s) → take (a + size - a) (drop a s) ≡ recordIn s k
   unfolding recordIn
   part_record a size k e f = rw (add-sub_cancel_left, e, f)
 
-  pub record-long : (k : ℕ) → recordAt (form_in s) (cores_in s) k + recordSize (form_in s) ≤ length s → length (recordIn s k) ≡ recordSize (form_in s)
+  pub record-long : (k : ℕ) → recordAt (form_in s) (cores_in s) k + recordSize (form_in s) ≤ length s → 29 ≤ length (recordIn s k)
   unfolding recordIn
-  record-long k h = part_length s (recordAt (form_in s) (cores_in s) k) (recordSize (form_in s)) h
+  record-long k h = rw (part_length s (recordAt (form_in s) (cores_in s) k) (recordSize (form_in s)) h) (record-limit (form_in s)).0
 
   -- before the end of the sets stand the counts and the timing figures
   pub header-there : recordsAt (form_in s) (cores_in s) ≤ length s → 34 ≤ length s
   header-there h = omega (arith, records-limit (form_in s) (cores_in s))
-
-  -- and so before the end of any record
-  pub header-before : (k : ℕ) → recordAt (form_in s) (cores_in s) k + recordSize (form_in s) ≤ length s → 34 ≤ length s
-  header-before k h = omega (arith, sets-limit (form_in s), after-sets (form_in s) (cores_in s) k)
 
   -- the sets and the records of a file that is as long as its header says lie within it
   pub records-end : Sized s → recordAt (form_in s) (cores_in s) (tasks_in s + 1) ≤ length s

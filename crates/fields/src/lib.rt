@@ -2,7 +2,6 @@
 
 ghost use Rattle.std.specs.Prelude.{◌≡◌, ◌+◌, ◌*◌, ◌≤◌, ◌<◌, length};
 ghost use Rattle.std.proofs.lemmas.List.Edits.{sets};
-ghost use Rattle.laws.specs.Idioms.{number_in, part};
 ghost use Rattle.rules.specs.Tasks.{task_of};
 ghost use Rattle.rules.specs.File.{recordsAt, recordSize, recordAt, recordTask, recordIn, cores_in, tasks_in, form_in, decode};
 ghost use Rattle.fields.specs.Places.{Sized, figures_in, sets_of};
@@ -21,33 +20,20 @@ pub fn record_in<'a>(file: &'a [u8], i: usize) -> &'a [u8]
     &file[a..e]
 }
 
-// The jitter in a record of a form: none where the form has no bytes for one.
-fn jitter_in(s: &[u8], form: u8) -> u64
-    requires { length s.now ≡ recordSize form }
-    ensures { result ≡ number_in (part s.now 29 8) }
-{
-    if basics::says_jitter(form) {
-        return bytes::le64(s, 29);
-    }
-    0
-}
-
-// The task of a record of a form.
-fn task_in(part: &[u8], form: u8) -> Task
-    requires { length part.now ≡ recordSize form }
+// The task of a record.
+fn task_in(part: &[u8]) -> Task
+    requires { 29 ≤ length part.now }
     ensures { result ≡ recordTask part.now }
 {
     let exec = bytes::le64(part, 1);
     let period = bytes::le64(part, 9);
     let deadline = bytes::le64(part, 17);
-    let jitter = jitter_in(part, form);
     Task {
         core: part[0],
         exec: Picos(exec),
         period: Picos(period),
         deadline: Picos(deadline),
         requests: bytes::le32(part, 25),
-        jitter: Picos(jitter),
     }
 }
 
@@ -57,7 +43,7 @@ pub fn record_task(file: &[u8], i: usize) -> Task
     requires file_in_bounds { recordAt (form_in file.now) (cores_in file.now) (i + 1) + recordSize (form_in file.now) ≤ length file.now }
     ensures { result ≡ recordTask (recordIn file.now (i + 1)) }
 {
-    task_in(record_in(file, i), file[3])
+    task_in(record_in(file, i))
 }
 
 // The task in place i, of a file that is as long as its header says.

@@ -40,12 +40,11 @@ fn records_in(file: &[u8]) -> Refusal
 {
     let cores = file[0];
     let n = file[2];
-    let fourth = file[3];
     let mut seen = tasks::no_faults();
     let mut i: u8 = 0;
     while i < n {
         let task = fields::task_at(file, places::size(i));
-        seen = tasks::noted(seen, i + 1, cores, fourth, task);
+        seen = tasks::noted(seen, i + 1, cores, task);
         i += 1;
     }
     tasks::told(seen)

@@ -42,7 +42,7 @@ module _ (t : Table) (shape : Shape t) (passed : AcceptedTable t) where
   unfolding check_tasks tasks_refusal cleared
   tasks-same = λ j.
       first-same 9 t.tasks (λ k low high. ap (core_fault t.cores) (task-kept k low high)) j
-      or_else first-same 10 t.tasks (λ k low high. ap (time_fault t.fourth) (task-kept k low high)) j
+      or_else first-same 10 t.tasks (λ k low high. ap time_fault (task-kept k low high)) j
       or_else first-same 11 t.tasks (λ k low high. ap request_fault (task-kept k low high)) j
 
   pub cleared-same : check_table (cleared t) ≡ check_table t

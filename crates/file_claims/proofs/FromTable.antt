@@ -18,7 +18,6 @@ use Rattle.laws.proofs.ByteLists.{bytes-append, bytes-joined}
 use Rattle.laws.proofs.Rows.{read_back}
 use Rattle.laws.proofs.Runs.{joined-take}
 use Rattle.file_claims.proofs.Codes.{number_code, task_code, record-bytes, task_known}
-use Rattle.facts.proofs.Places.{length-limit}
 use Rattle.facts.proofs.Came.{Whole}
 use Rattle.file_claims.proofs.Whole.{trailer-length, trailed-whole}
 use Rattle.file_claims.proofs.Places.{header, figure_bytes, set_bytes, task_bytes, body-parts, encode-parts, figure_ladder, set_ladder, record-ladder, sets-after-figures, records-after-sets, trailer-after_records}
@@ -59,23 +58,15 @@ module _ {t : Table} (shape : Shape t) (passed : AcceptedTable t) where
 
   -- ---- it is whole
 
-  body-small : length (body t) + 12 ≤ 1246
-  body-small =
-      let form = t.fourth in
-      omega (
-        arith,
-        body-length,
-        trailer-after_records form t.cores t.tasks,
-        length-limit form t.cores t.tasks,
-        (sound t passed).cores-in,
-        (sound t passed).tasks-in,
-      )
+  body-small : length (body t) ≤ 978
+  unfolding recordsAt sets_at recordSize
+  body-small = omega (arith, body-length, (sound t passed).cores-in, (sound t passed).tasks-in)
 
   header_are : Bytes (header t)
   unfolding header
   header_are =
       let facts = sound t passed in
-      let fourth = facts.fourth_low in
+      let fourth = facts.fourth-low in
       more {b = t.cores} (omega (arith, facts.cores-in))
       (more {b = t.partitions} (omega (arith, facts.partitions-in))
       (more {b = t.tasks} (omega (arith, facts.tasks-in)) (more {b = t.fourth} (omega arith) none)))
@@ -88,7 +79,7 @@ module _ {t : Table} (shape : Shape t) (passed : AcceptedTable t) where
       (bytes-append (bytes-append header_are (bytes-joined (bytes_of 2) (bytes_are 2) t.timing)) (bytes-joined (bytes_of 2) (bytes_are 2) (take t.cores t.sets)))
       (bytes-joined (recordBytes t.fourth) (record-bytes t.fourth) (tasks_of t)))
 
-  pub file_small : length (encode t) ≤ 1246
+  pub file_small : length (encode t) ≤ 990
   unfolding encode
   file_small = rw (length-append (body t) (trailer (body t)), trailer-length (body t)) (omega (arith, body-small))
 

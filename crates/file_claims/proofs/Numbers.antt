@@ -106,7 +106,7 @@ module _ (t : Table) where
   tasks_give =
       both_give
       (both_give (first_gives 9 (λ k. core_fault t.cores (task_of t k)) (low 9 (omega arith) (omega arith)) 1 t.tasks)
-      (first_gives 10 (λ k. time_fault t.fourth (task_of t k)) (low 10 (omega arith) (omega arith)) 1 t.tasks))
+      (first_gives 10 (λ k. time_fault (task_of t k)) (low 10 (omega arith) (omega arith)) 1 t.tasks))
       (first_gives 11 (λ k. request_fault (task_of t k)) (low 11 (omega arith) (omega arith)) 1 t.tasks)
 
   pub table_gives : Gives OfTable (check_table t)

@@ -11,7 +11,6 @@ use Rattle.rules.specs.Tasks.{no_task}
 use Rattle.rules.specs.Chain.{is_accepted}
 use Rattle.rules.specs.Refusals.{check_table}
 use Rattle.facts.proofs.Accepted.{sound}
-use Rattle.facts.proofs.Latest.{latest-within}
 use Rattle.file_claims.proofs.Codes.{Fits}
 
 -- places of a list are counted from 0, figures, cores and tasks from 1
@@ -27,16 +26,8 @@ module _ (t : Table) (passed : is_accepted (check_table t) ≡ true) where
       let widest : 2 ^ t.partitions ≤ 2 ^ 16 = pow-le-pow_right (lit< tt) (sound t passed).partitions-in.high in
       omega (arith, rw (from_one k) at ((sound t passed).set-high (suc k) (omega arith) (omega arith)))
 
-  pub task-fits : (k : ℕ) → k < t.tasks → Fits t.fourth (get_or t.task k no_task)
+  pub task-fits : (k : ℕ) → k < t.tasks → Fits (get_or t.task k no_task)
   task-fits k less =
       let cores = (sound t passed).cores-in in
       let i = rw (from_one k) at ((sound t passed).task-sound (suc k) (omega arith) (omega arith)) in
-      record {
-        core-fits = omega arith;
-        C-fits = omega (arith, latest-within (get_or t.task k no_task));
-        T-fits = omega arith;
-        D-fits = omega arith;
-        H-fits = omega arith;
-        J-fits = omega arith;
-        J-none = λ none. rw (from_one k) at ((sound t passed).jitter-none none (suc k) (omega arith) (omega arith));
-      }
+      record { core-fits = omega arith; C-fits = omega arith; T-fits = omega arith; D-fits = omega arith; H-fits = omega arith }

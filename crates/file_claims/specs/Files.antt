@@ -70,7 +70,7 @@ pub record ReturnInPlace : Type 0 where
       → reading (take (writing t out).length (out_after t out)) ≡ record { refusal = accepted; table = cleared t }
   pub written_read : (s out : List ℕ) → Bytes s → AcceptedFile s → length s ≤ length out
       → ((writing (reading s).table out).length ≡ length s) × (out_after (reading s).table out ≡ s ++ drop (length s) out)
-  pub room : (t : Table) → Shape t → AcceptedTable t → length (encode t) ≤ 1246
+  pub room : (t : Table) → Shape t → AcceptedTable t → length (encode t) ≤ 990
   -- what is written fits, whatever the table
   pub fits : (t : Table) (out : List ℕ) → (writing t out).length ≤ length out
   pub rest-stays : (t : Table) (out : List ℕ) → drop (writing t out).length (out_after t out) ≡ drop (writing t out).length out

@@ -6,7 +6,7 @@ use native.Mathlib.Omega.{arith}
 use lib.ListN.{length, get_or, set}
 use Rattle.laws.proofs.Fill.{each_next}
 use Rattle.rules.specs.declared.Task.{Task}
-use Rattle.rules.specs.Tasks.{C, T, H, J, latest, no_task}
+use Rattle.rules.specs.Tasks.{C, T, H, latest, no_task}
 use Rattle.groups.specs.Columns.{PerTask, InOrder, Columns}
 
 module _ {tasks : List Task} where
@@ -29,16 +29,15 @@ module _ {tasks : List Task} where
         → y ≡ f (get_or tasks (get_or order k 0) no_task) → InOrder f tasks (k + 1) order (set column k y)
     in_order-next {f} {column = column} fits so e = record { each = each_next column (λ k. f (get_or tasks (get_or order k 0) no_task)) fits so.each e }
 
-    pub columns-none : {periods jitters costs asks : List ℕ} → Columns tasks 0 order periods jitters costs asks
-    columns-none = record { period = in_order-none; jitter = in_order-none; exec = in_order-none; request = in_order-none }
+    pub columns-none : {spans costs asks : List ℕ} → Columns tasks 0 order spans costs asks
+    columns-none = record { periods = in_order-none; execs = in_order-none; requests = in_order-none }
 
-    pub columns-next : {k : ℕ} {periods jitters costs asks : List ℕ} {task : Task} → k < length periods → k < length jitters → k < length costs → k < length asks
-        → Columns tasks k order periods jitters costs asks → task ≡ get_or tasks (get_or order k 0) no_task
-        → Columns tasks (k + 1) order (set periods k (T task)) (set jitters k (J task)) (set costs k (C task)) (set asks k (H task))
-    columns-next p j x a so e =
+    pub columns-next : {k : ℕ} {spans costs asks : List ℕ} {task : Task} → k < length spans → k < length costs → k < length asks
+        → Columns tasks k order spans costs asks → task ≡ get_or tasks (get_or order k 0) no_task
+        → Columns tasks (k + 1) order (set spans k (T task)) (set costs k (C task)) (set asks k (H task))
+    columns-next p x a so e =
         record {
-          period = in_order-next p so.period (rw e);
-          jitter = in_order-next j so.jitter (rw e);
-          exec = in_order-next x so.exec (rw e);
-          request = in_order-next a so.request (rw e);
+          periods = in_order-next p so.periods (rw e);
+          execs = in_order-next x so.execs (rw e);
+          requests = in_order-next a so.requests (rw e);
         }

@@ -1,4 +1,4 @@
--- The first 9,992 bytes of an input stand for it: where it has as many, it is longer than its header's counts ask for, and so are they.
+-- The first 7,952 bytes of an input stand for it: where it has as many, it is longer than its header's counts ask for, and so are they.
 -- Only the header's counts need be bytes. Assumes nothing.
 use mathlib.Core.Path.{◌≡◌, refl, sym, ◌∙◌}
 use mathlib.Core.Bool.{Bool, true, false}
@@ -10,20 +10,20 @@ use lib.ListN.{length, take, get_or}
 use lib.Seq.{get_or-take, length-take-le, take_all}
 use borrow.Author.Tests.{le-ltb, ltb-true, ltb-false, ne_eqb}
 use Rattle.rules.specs.Chain.{refused, is_accepted}
-use Rattle.rules.specs.File.{file_length, cores_in, tasks_in, form_in, check_whole}
+use Rattle.rules.specs.File.{sets_at, recordsAt, recordSize, file_length, cores_in, tasks_in, form_in, check_whole}
 use Rattle.rules.specs.Operations.{empty_table, reading, check_file, check_to_judge, read_to_judge}
 use Rattle.rules.specs.Listing.{listing}
 use Rattle.rules.specs.Salvage.{salvaging, salvaged_out}
-use Rattle.facts.proofs.Places.{length-limit}
 use Rattle.input.specs.StandsFor.{StandsFor}
 use Rattle.input.proofs.Salvaged.{same-salvage}
 
--- 46 + 2·255 + 37·255 is 9,991
-file_length_lem : (form cores tasks : ℕ) → cores < 256 → tasks < 256 → file_length form cores tasks < 9992
-file_length_lem form cores tasks c t = omega (arith, length-limit form cores tasks)
+-- 46 + 2·255 + 29·255 is 7,951
+file_length_lem : (form cores tasks : ℕ) → cores < 256 → tasks < 256 → file_length form cores tasks < 7952
+unfolding file_length recordsAt recordSize sets_at
+file_length_lem form cores tasks c t = omega arith
 
 -- more bytes than that are refused by 2 (RULES 7.5)
-module _ (s : List ℕ) (cores : cores_in s < 256) (tasks : tasks_in s < 256) (long : 9992 ≤ length s) where
+module _ (s : List ℕ) (cores : cores_in s < 256) (tasks : tasks_in s < 256) (long : 7952 ≤ length s) where
   wrong_length : check_whole s ≡ refused 2 0
   unfolding check_whole
   wrong_length =
@@ -44,8 +44,8 @@ module _ (s : List ℕ) (cores : cores_in s < 256) (tasks : tasks_in s < 256) (l
   not_to_judge = rw wrong_length
 
 -- two such inputs stand for each other, if they are salvaged as the same
-module _ (s r : List ℕ) (cores : cores_in s < 256) (tasks : tasks_in s < 256) (long : 9992 ≤ length s)
-    (cores' : cores_in r < 256) (tasks' : tasks_in r < 256) (long' : 9992 ≤ length r)
+module _ (s r : List ℕ) (cores : cores_in s < 256) (tasks : tasks_in s < 256) (long : 7952 ≤ length s)
+    (cores' : cores_in r < 256) (tasks' : tasks_in r < 256) (long' : 7952 ≤ length r)
     (salvage : (out : List ℕ) → (salvaging s out ≡ salvaging r out) × (salvaged_out s out ≡ salvaged_out r out)) where
   judged-alike : read_to_judge s ≡ read_to_judge r
   judged-alike = not_to_judge s cores tasks long ∙ sym (not_to_judge r cores' tasks' long')
@@ -60,17 +60,17 @@ module _ (s r : List ℕ) (cores : cores_in s < 256) (tasks : tasks_in s < 256) 
   }
 
 -- an input with its first `room` bytes: a shorter one is all there
-module _ (room : ℕ) (enough : 9992 ≤ room) (s r : List ℕ) (begins : take room s ≡ r) (cores : cores_in r < 256) (tasks : tasks_in r < 256) where
+module _ (room : ℕ) (enough : 7952 ≤ room) (s r : List ℕ) (begins : take room s ≡ r) (cores : cores_in r < 256) (tasks : tasks_in r < 256) where
   same : length s ≤ room → StandsFor s r
   same short = let e : s ≡ r = sym (take_all room s short) ∙ begins in rw e (record { whole = refl; read = refl; listed = refl; salvaged = λ out. (refl, refl) })
 
   -- a header's count is that of the front
-  header : (i : ℕ) → i < 9992 → get_or r i 0 < 256 → get_or s i 0 < 256
+  header : (i : ℕ) → i < 7952 → get_or r i 0 < 256 → get_or s i 0 < 256
   header i h byte = rw (← begins, get_or-take room s i 0 (omega arith)) at byte
 
   longer : room < length s → StandsFor s r
   longer long =
-      let full : 9992 ≤ length r = rw (← begins, length-take-le room s (omega arith)) enough in
+      let full : 7952 ≤ length r = rw (← begins, length-take-le room s (omega arith)) enough in
       let cores' : cores_in s < 256 = header 0 (omega arith) cores in
       let tasks' : tasks_in s < 256 = header 2 (omega arith) tasks in
       let first : is_accepted (check_file (take room s)) ≡ false = rw begins (not_read r cores tasks full) in

@@ -1,9 +1,8 @@
 -- An input and its first bytes, as many as no header's counts exceed, are salvaged as the same: every record that the header promises stands in both. Assumes nothing.
 use mathlib.Core.Path.{◌≡◌, refl, ap}
-use mathlib.Core.Bool.{Bool, false}
+use mathlib.Core.Bool.{Bool, true, false}
 use mathlib.Core.List.{List}
 use Prim.Native.Nat.{ℕ, zero, suc, ◌+◌, ◌-◌, ◌≤◌, ◌<◌}
-use native.Mathlib.Nat.{mul-le-mul}
 use native.Mathlib.Omega.{arith}
 use lib.ListN.{length, take}
 use borrow.Author.Tests.{le-ltb, le-leb}
@@ -14,7 +13,6 @@ use Rattle.rules.specs.File.{sets_at, recordsAt, recordSize, recordAt, recordTas
 use Rattle.rules.specs.Operations.{check_file}
 use Rattle.rules.specs.Salvage.{ends_early, reaches, is_sound, leading, kept, stopped, salvaged_table, check_salvage, salvaging, salvaged_out}
 use Rattle.laws.specs.Idioms.{filled}
-use Rattle.facts.proofs.Sizes.{record-limit}
 use Rattle.kept.proofs.Parts.{row-agree}
 use Rattle.kept.proofs.Kept.{kept-most}
 use Rattle.kept.proofs.CutParts.{cut-length, cores-cut, partitions-cut, tasks-cut, form-cut, record-cut, figures-cut, sets-cut, board-cut}
@@ -26,17 +24,15 @@ leading-same k zero same = refl
 leading-same k (suc m) same =
     rw (same k (omega arith) (omega arith), leading-same (k + 1) m (λ i low high. same i (omega arith) (omega arith)))
 
-module _ (s : List ℕ) (n : ℕ) (within : n ≤ length s) (enough : 9992 ≤ n) (cores : cores_in s < 256) (tasks : tasks_in s < 256) where
+module _ (s : List ℕ) (n : ℕ) (within : n ≤ length s) (enough : 7952 ≤ n) (cores : cores_in s < 256) (tasks : tasks_in s < 256) where
   -- the sets and every record that is promised stand in the first bytes
   sets-there : recordsAt (form_in s) (cores_in s) ≤ n
   unfolding recordsAt sets_at
   sets-there = omega arith
 
   record-there : (k : ℕ) → k ≤ tasks_in s → recordAt (form_in s) (cores_in s) k + recordSize (form_in s) ≤ n
-  unfolding recordAt recordsAt sets_at
-  record-there k high =
-      let size = (record-limit (form_in s)).1 in
-      omega (arith, mul-le-mul {m₁ = k - 1} {m₂ = 254} size (omega arith))
+  unfolding recordAt recordsAt sets_at recordSize
+  record-there k high = omega arith
 
   same_record : (k : ℕ) → k ≤ tasks_in s → recordIn (take n s) k ≡ recordIn s k
   same_record k high = record-cut s n within sets-there k (record-there k high)

@@ -2,41 +2,36 @@
 -- Assumes nothing.
 use Rattle.std.specs.Prelude.{ℕ, ◌+◌, ◌*◌, ◌-◌, ◌≤◌, ◌<◌, ◌^◌, ◌≡◌, List, get_or}
 use Rattle.rules.specs.Units.{ps}
-use Rattle.releases.specs.Releases.{most_releases}
-use Rattle.counts.specs.Counts.{sum_from, Spans, later_of, asked_by, Slots}
+use Rattle.counts.specs.Counts.{sum_from, later_of, asked_by, Slots}
 use Rattle.floors.specs.declared.Others.{Others}
 use Rattle.floors.specs.Floors.{weighed, twice_on}
 
 -- RULES 4.5, of the core in place q
-unfoldable pub arrived_on : List ℕ → Spans → List ℕ → ℕ → ℕ → ℕ
-arrived_on begins spans asks t q = asked_by 1 t (get_or begins q 0) (get_or begins (q + 1) 0) spans asks
+unfoldable pub arrived_on : List ℕ → List ℕ → List ℕ → ℕ → ℕ → ℕ
+arrived_on begins periods asks t q = asked_by 1 t (get_or begins q 0) (get_or begins (q + 1) 0) periods asks
 
 -- RULES 5.3
-unfoldable pub job_by : Others → List ℕ → Spans → List ℕ → ℕ → ℕ
-job_by others begins spans asks t = weighed others.cores others.weight (arrived_on begins spans asks t)
-
--- the most that is added up: of 32 tasks all releases, of 10^6 requests at 2·10^7 each, and the floor. It is below 2^64 − 1, which the rest rests on
-abbrev pub most_job : ℕ
-most_job = 13 * 10 ^ 18
+unfoldable pub job_by : Others → List ℕ → List ℕ → List ℕ → ℕ → ℕ
+job_by others begins periods asks t = weighed others.cores others.weight (arrived_on begins periods asks t)
 
 -- job; or as much of it as is no less than request
 pub record Reached (request job r : ℕ) : Type 0 where
   pub low : r ≤ job
   pub full : r < request → r ≡ job
-  pub high : r ≤ most_job
+  pub high : r ≤ 33 * (10000 * (2 * 10 ^ 13))
 
 -- of one core what is above the first jobs, at so much a request
-pub record Charged (a e : ℕ) (spans : Spans) (asks : List ℕ) (weight t r : ℕ) : Type 0 where
-  pub is : r ≡ sum_from (later_of t spans asks) a e * weight
-  pub high : r ≤ (e - a) * (most_releases * (2 * 10 ^ 13))
+pub record Charged (a e : ℕ) (periods asks : List ℕ) (weight t r : ℕ) : Type 0 where
+  pub is : r ≡ sum_from (later_of t periods asks) a e * weight
+  pub high : r ≤ (e - a) * (10000 * (2 * 10 ^ 13))
 
 -- ---- what the code may rely on
 
-pub record Group (others : Others) (begins : List ℕ) (spans : Spans) (asks : List ℕ) (q : ℕ) : Type 0 where
-  pub slots : Slots (10 ^ 6) (get_or begins q 0) (get_or begins (q + 1) 0) spans asks
+pub record Group (others : Others) (begins periods asks : List ℕ) (q : ℕ) : Type 0 where
+  pub slots : Slots (10 ^ 6) (get_or begins q 0) (get_or begins (q + 1) 0) periods asks
   pub weight-high : (get_or others.weight q (ps 0)).0 ≤ 2 * 10 ^ 7
 
-pub record Groups (others : Others) (begins : List ℕ) (spans : Spans) (asks : List ℕ) : Type 0 where
+pub record Groups (others : Others) (begins periods asks : List ℕ) : Type 0 where
   pub few : others.cores ≤ 8
-  pub each : (q : ℕ) → q < others.cores → Group others begins spans asks q
+  pub each : (q : ℕ) → q < others.cores → Group others begins periods asks q
   pub floor_is : others.floor ≡ ps (weighed others.cores others.weight (twice_on begins asks))

@@ -8,7 +8,7 @@ use lib.Seq.{length-take-le, take-take, get_or-take}
 use Rattle.laws.specs.Idioms.{filled, number_in, part}
 use Rattle.rules.specs.Refusals.{check_board}
 use Rattle.rules.specs.File.{sets_at, recordsAt, recordSize, recordAt, recordIn, cores_in, partitions_in, tasks_in, form_in, decode}
-use Rattle.facts.proofs.Places.{records-are, records-limit}
+use Rattle.places.proofs.Places.{records-are, records-limit}
 use Rattle.kept.proofs.Parts.{parts-agree, row-agree}
 
 module _ (s : List ℕ) (n : ℕ) (within : n ≤ length s) (reaches : recordsAt (form_in s) (cores_in s) ≤ n) where

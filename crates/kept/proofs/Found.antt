@@ -9,9 +9,9 @@ use Rattle.rules.specs.Refusals.{core_fault, time_fault, request_fault}
 use Rattle.rules.specs.Salvage.{task_fault}
 use Rattle.tasks.specs.Faults.{earliest, no_faults, with_task, placed, told_by}
 
-pub found : (cores fourth : ℕ) (x : Task) → not (eqb (told_by (with_task no_faults 1 cores fourth x)).number 0) ≡ task_fault cores fourth x
+pub found : (cores : ℕ) (x : Task) → not (eqb (told_by (with_task no_faults 1 cores x)).number 0) ≡ task_fault cores x
 unfolding told_by with_task earliest task_fault
-found cores fourth x = go (core_fault cores x) (time_fault fourth x) (request_fault x)
+found cores x = go (core_fault cores x) (time_fault x) (request_fault x)
   where
     go : (a b c : Bool) → not (eqb (placed 9 (cond a 1 0) or_else placed 10 (cond b 1 0) or_else placed 11 (cond c 1 0)).number 0) ≡ a || b || c
     go true b c = refl

@@ -1,9 +1,10 @@
 -- The kept records of a file: each is whole and has no fault, the next one is not so, and the table of them is accepted. Assumes nothing.
-use mathlib.Core.Path.{◌≡◌, refl, ◌∙◌}
+use mathlib.Core.Path.{◌≡◌, refl, sym, ◌∙◌}
 use mathlib.Core.Bool.{Bool, true, false, not}
 use mathlib.Core.List.{List}
-use Prim.Native.Nat.{ℕ, zero, suc, ◌+◌, ◌-◌, ◌≤◌, ◌<◌}
+use Prim.Native.Nat.{ℕ, zero, suc, ◌+◌, ◌*◌, ◌-◌, ◌≤◌, ◌<◌}
 use native.Mathlib.Omega.{arith}
+use lib.Dec.{leb, ltb}
 use lib.ListN.{length}
 use borrow.Author.Tests.{leb-true, ltb-false, le-leb, lt-ltb, not-true}
 use Rattle.laws.proofs.Tests.{and_both, or_neither}
@@ -15,11 +16,11 @@ use Rattle.rules.specs.Chain.{accepted, is_accepted, first}
 use Rattle.rules.specs.Refusals.{counts_fault, check_row, core_fault, time_fault, request_fault, board_refusal, tasks_refusal, check_board, check_tasks, check_table}
 use Rattle.rules.specs.File.{recordsAt, recordSize, recordAt, recordTask, recordIn, cores_in, partitions_in, tasks_in, form_in, decode}
 use Rattle.rules.specs.Salvage.{ends_early, reaches, task_fault, is_sound, kept, salvaged_table}
-use Rattle.facts.proofs.Places.{record-place}
+use Rattle.places.proofs.Places.{record-place}
 use Rattle.facts.proofs.Accepted.{counts, row-passed, sets-passed}
 use Rattle.facts.proofs.First.{first-none}
 use Rattle.kept.proofs.Leading.{leading-most, leading_pass, leading_stop}
-use Rattle.kept.proofs.Marked.{marked-low, marked-bus, marked-jitter}
+use Rattle.kept.proofs.Marked.{marked-low, marked-bus}
 
 module _ (s : List ℕ) where
   pub kept-most : kept s ≤ tasks_in s
@@ -41,13 +42,8 @@ module _ (s : List ℕ) where
   abbrev task : ℕ → Task
   task k = recordTask (recordIn s k)
 
-  -- the mark says nothing else of its times
-  marked-time : (i : Task) → time_fault (marked (form_in s)) i ≡ time_fault (form_in s) i
-  unfolding time_fault
-  marked-time i = rw (marked-jitter (form_in s))
-
   module _ (k : ℕ) (low : 1 ≤ k) (high : k ≤ kept s) where
-    parts : (reaches s k ≡ true) × (not (task_fault (cores_in s) (form_in s) (task k)) ≡ true)
+    parts : (reaches s k ≡ true) × (not (task_fault (cores_in s) (task k)) ≡ true)
     unfolding is_sound
     parts = and_both _ _ (kept-sound k low high)
 
@@ -55,10 +51,10 @@ module _ (s : List ℕ) where
     unfolding reaches
     kept_whole = leb-true _ _ parts.0
 
-    pub kept_faultless : task_fault (cores_in s) (form_in s) (task k) ≡ false
+    pub kept_faultless : task_fault (cores_in s) (task k) ≡ false
     kept_faultless = not-true _ parts.1
 
-    faults : (core_fault (cores_in s) (task k) ≡ false) × (time_fault (form_in s) (task k) ≡ false) × (request_fault (task k) ≡ false)
+    faults : (core_fault (cores_in s) (task k) ≡ false) × (time_fault (task k) ≡ false) × (request_fault (task k) ≡ false)
     unfolding task_fault
     faults =
         let (early, requests) = or_neither _ _ kept_faultless in
@@ -100,7 +96,7 @@ module _ (s : List ℕ) where
           le-leb (partitions_in s) 16 partitions.high,
           le-leb 1 (kept s) some,
           le-leb (kept s) 32 (omega (arith, kept-most, tasks.high)),
-          lt-ltb (marked (form_in s)) 8 (marked-low (form_in s) fourth),
+          lt-ltb (marked (form_in s)) 4 (marked-low (form_in s) fourth),
         )
 
     board-accepted : is_accepted (check_board (salvaged_table s)) ≡ true
@@ -112,7 +108,7 @@ module _ (s : List ℕ) where
     tasks-accepted =
         rw (
           clear 9 (core_fault (cores_in s)) (λ k low high. (faults k low high).0),
-          clear 10 (time_fault (marked (form_in s))) (λ k low high. marked-time (task k) ∙ (faults k low high).1),
+          clear 10 time_fault (λ k low high. (faults k low high).1),
           clear 11 request_fault (λ k low high. (faults k low high).2),
         )
 

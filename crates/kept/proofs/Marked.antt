@@ -1,10 +1,11 @@
--- A fourth byte with bit 1 set: it is allowed where the byte was, it says that the table is salvaged, and of a bus and of jitter what the byte said. Assumes nothing.
+-- A fourth byte with bit 1 set: it is allowed where the byte was, it says that the table is salvaged, and of a bus what the byte said. Assumes nothing.
 use mathlib.Core.Path.{◌≡◌, refl}
 use mathlib.Core.Bool.{Bool, true, false, cond}
 use Prim.Native.Nat.{ℕ, ◌+◌, ◌/◌, ◌%◌, ◌<◌}
 use native.Mathlib.Omega.{arith}
+use lib.Dec.{eqb}
 use borrow.Author.Tests.{eqb-false, eq-eqb}
-use Rattle.rules.specs.Kinds.{says_bus, says_salvaged, says_jitter, marked}
+use Rattle.rules.specs.Kinds.{says_bus, says_salvaged, marked}
 
 module _ (f : ℕ) where
   marked_either : (P : ℕ → Type 0) → (says_salvaged f ≡ true → P f) → (says_salvaged f ≡ false → P (f + 2)) → P (marked f)
@@ -15,9 +16,9 @@ module _ (f : ℕ) where
       go true e = was e
       go false e = is e
 
-  pub marked-low : f < 8 → marked f < 8
+  pub marked-low : f < 4 → marked f < 4
   unfolding says_salvaged
-  marked-low low = marked_either (λ m. m < 8) (λ e. low) (λ e. let z = eqb-false (f / 2 % 2) 1 e in omega (arith, z))
+  marked-low low = marked_either (λ m. m < 4) (λ e. low) (λ e. let z = eqb-false (f / 2 % 2) 1 e in omega (arith, z))
 
   pub marked-says : says_salvaged (marked f) ≡ true
   unfolding says_salvaged
@@ -30,13 +31,3 @@ module _ (f : ℕ) where
   marked-bus =
       marked_either (λ m. says_bus m ≡ says_bus f) (λ e. refl)
       (λ e. let same : (f + 2) / 1 % 2 ≡ f / 1 % 2 = omega arith in rw same)
-
-  pub marked-jitter : says_jitter (marked f) ≡ says_jitter f
-  unfolding says_salvaged says_jitter
-  marked-jitter =
-      marked_either (λ m. says_jitter m ≡ says_jitter f) (λ e. refl)
-      (λ e.
-      let z = eqb-false (f / 2 % 2) 1 e in
-      let even : f / 2 % 2 ≡ 0 = omega (arith, z) in
-      let same : (f + 2) / 4 ≡ f / 4 = omega (arith, even) in
-      rw same)

@@ -1,6 +1,6 @@
 -- Whether a record is sound, as code looks: at where it ends, and then at its task. Assumes nothing.
-use mathlib.Core.Path.{◌≡◌}
-use mathlib.Core.Bool.{false, not}
+use mathlib.Core.Path.{◌≡◌, refl}
+use mathlib.Core.Bool.{true, false, not}
 use mathlib.Core.List.{List}
 use Prim.Native.Nat.{ℕ, ◌+◌, ◌≤◌, ◌<◌}
 use lib.ListN.{length}
@@ -14,6 +14,6 @@ module _ (s : List ℕ) (k : ℕ) where
   cut_off h = rw (lt-leb (recordAt (form_in s) (cores_in s) k + recordSize (form_in s)) (length s) h)
 
   pub by_fault : recordAt (form_in s) (cores_in s) k + recordSize (form_in s) ≤ length s
-      → not (task_fault (cores_in s) (form_in s) (recordTask (recordIn s k))) ≡ is_sound s k
+      → not (task_fault (cores_in s) (recordTask (recordIn s k))) ≡ is_sound s k
   unfolding is_sound reaches
   by_fault h = rw (le-leb (recordAt (form_in s) (cores_in s) k + recordSize (form_in s)) (length s) h)

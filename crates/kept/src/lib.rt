@@ -5,11 +5,11 @@ ghost use Rattle.rules.specs.Salvage.{task_fault, is_sound, kept};
 
 use rules::Task;
 
-// Do 9 to 11 find a fault in a task of a table with this fourth byte?
-fn task_fault(cores: u8, fourth: u8, x: Task) -> bool
-    ensures { result ≡ task_fault cores fourth x }
+// Do 9 to 11 find a fault in a task?
+fn task_fault(cores: u8, x: Task) -> bool
+    ensures { result ≡ task_fault cores x }
 {
-    let seen = tasks::noted(tasks::no_faults(), 1, cores, fourth, x);
+    let seen = tasks::noted(tasks::no_faults(), 1, cores, x);
     let refusal = tasks::told(seen);
     refusal.number != 0
 }
@@ -25,7 +25,7 @@ fn is_sound(file: &[u8], i: usize) -> bool
     if file.len() < end {
         return false;
     }
-    !task_fault(file[0], form, fields::record_task(file, i))
+    !task_fault(file[0], fields::record_task(file, i))
 }
 
 // How many are kept, of a file that reaches the end of its sets.

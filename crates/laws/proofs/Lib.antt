@@ -3,6 +3,7 @@
 --     Linear     a sum of sums, of multiples, of a test
 --     Members    what is known of a member
 --     Paired     two lists, place by place
+--     Every      a test of every place, as a loop makes it
 --     Tests      what a test that passed says of its parts
 --     Fill       an array filled place by place
 --     Places     an array with a place for each number
@@ -19,6 +20,7 @@ pub mod Linear
 pub mod Members
 pub mod Paired
 pub mod Tests
+pub mod Every
 pub mod Fill
 pub mod Runs
 pub mod Places

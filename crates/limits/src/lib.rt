@@ -20,7 +20,7 @@ pub fn counts_fault(cores: u8, partitions: u8, tasks: u8, fourth: u8) -> bool
     if outside(1, 32, tasks as u64) {
         return true;
     }
-    if 7 < fourth {
+    if 3 < fourth {
         return true;
     }
     false

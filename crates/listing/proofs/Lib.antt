@@ -1,5 +1,5 @@
 -- Laws that belong to no one function.
---     TableText  what is listed for a table, by what its check gave
+--     TableLines the lines of a table
 --     Listed     what is listed for a file, by what reading it gave
-pub mod TableText
+pub mod TableLines
 pub mod Listed

@@ -1,3 +1,3 @@
 -- Laws that belong to no one function.
---     Missed     the tasks that miss, and the last line
+--     Missed     the last line
 pub mod Missed

@@ -1,3 +1,3 @@
 -- What the contracts of this crate cite beside the rules and `text`.
---     Last   the tasks that miss, and the last line of a listing
+--     Last   the last line of a listing
 pub mod Last

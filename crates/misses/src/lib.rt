@@ -2,7 +2,7 @@
 ghost use Rattle.std.specs.Prelude.{◌≡◌, ◌+◌, ◌≤◌, length};
 ghost use Rattle.rules.specs.Listing.{is_miss};
 ghost use Rattle.text.specs.Put.{Put};
-ghost use Rattle.misses.specs.Last.{missed, first_of, last_for};
+ghost use Rattle.misses.specs.Last.{last, last_for};
 
 use rules::{Answer, Verdict};
 use text::{put_phrase, put_word};
@@ -19,16 +19,16 @@ pub fn is_miss(verdict: Verdict) -> bool
 // The number of the first task that misses, 0 where none does.
 pub fn first_miss(n: usize, answers: [Answer; 32]) -> u64
     requires { n ≤ 32 }
-    ensures { result ≡ first_of (missed answers n) }
+    ensures { last_for result ≡ last answers n }
 {
-    let mut k: usize = 1;
-    while k <= n {
-        let answer = answers[k - 1];
+    let mut i: usize = 0;
+    while i < n {
+        let answer = answers[i];
+        i += 1;
         let verdict = answer.verdict;
         if is_miss(verdict) {
-            return k as u64;
+            return i as u64;
         }
-        k += 1;
     }
     0
 }

@@ -43,12 +43,12 @@ pub fn whole_altered(file: &mut [u8], i: usize, b: u8) -> Refusal
     arrival::whole(file)
 }
 
-// Point 2, a table that is written and read. No accepted table takes more than 1246 bytes.
+// Point 2, a table that is written and read. No accepted table takes more than 990 bytes.
 pub fn written_then_read(t: Table) -> Read
-    ensures value { result ≡ reading (written_to (replicate 1246 0) t) }
+    ensures value { result ≡ reading (written_to (replicate 990 0) t) }
     ensures value_2 { AcceptedTable t → result ≡ record { refusal = accepted; table = cleared t } }
 {
-    let mut room = [0u8; 1246];
+    let mut room = [0u8; 990];
     let written = writer::write(t, &mut room);
     file::read(&room[..written.length])
 }

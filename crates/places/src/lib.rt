@@ -1,7 +1,7 @@
 // Where the parts of a table file stand, and how long it is, by its header's bytes.
 
 ghost use Rattle.std.specs.Prelude.{◌≡◌, ◌+◌, ◌<◌, ◌≤◌};
-ghost use Rattle.rules.specs.File.{sets_at, jitter_size, recordSize, recordAt, file_length};
+ghost use Rattle.rules.specs.File.{sets_at, recordSize, recordAt, file_length};
 
 // A count as a size.
 pub fn size(x: u8) -> usize
@@ -19,20 +19,12 @@ pub fn sets_at(form: u8) -> usize
     34
 }
 
-// RULES 7.2: the bytes of a record that are for its task's jitter.
-pub fn jitter_size(form: u8) -> usize
-    ensures value { result ≡ jitter_size form }
-    ensures upper_bound { result ≤ 8 }
-{
-    if basics::says_jitter(form) { 8 } else { 0 }
-}
-
 // RULES 7.1: the bytes of a task's record.
 pub fn record_size(form: u8) -> usize
     ensures value { result ≡ recordSize form }
     ensures upper_bound { result ≤ 64 }
 {
-    29 + jitter_size(form)
+    29
 }
 
 // Where the record in place i starts, which is that of task number i + 1 (RULES 7.2).

@@ -33,14 +33,14 @@ numbered_fit : every fits (pieces_from 124 [] numbered_texts) ≡ true
 unfolding fits numbered_texts
 numbered_fit = refl
 
-numbered-some : is_empty (pieces_from 124 [] numbered_texts) ≡ false
+numbered_some : is_empty (pieces_from 124 [] numbered_texts) ≡ false
 unfolding numbered_texts
-numbered-some = refl
+numbered_some = refl
 
 all_fit : (number : ℕ) (b : Bool) → fits (cond b (text "an output is shorter than the tasks") (piece_of 124 numbered_texts number)) ≡ true
 unfolding fits piece_of
 all_fit number true = refl
-all_fit number false = every-text fits (pieces_from 124 [] numbered_texts) number numbered-some numbered_fit
+all_fit number false = every-text fits (pieces_from 124 [] numbered_texts) number numbered_some numbered_fit
 
 pub reason-length : (number : ℕ) → Within 1 longest_reason (length (reason_text number))
 unfolding fits reason_text

@@ -1,5 +1,5 @@
 // A short text for a refusal's number, into a lent buffer.
-ghost use Rattle.std.specs.Prelude.{length};
+ghost use Rattle.std.specs.Prelude.{◌≤◌, length};
 ghost use Rattle.laws.specs.Idioms.{Within};
 ghost use Rattle.text.specs.Put.{Given};
 ghost use Rattle.reasons.specs.Reasons.{reason_text, longest_reason};
@@ -20,7 +20,7 @@ pub fn reason(number: u8, out: &mut [u8]) -> usize
     }
     let texts = b"nothing is refused|\
         the file has under 46 bytes|\
-        the file's length is not what its header says|\
+        the file's length is not what its counts say|\
         the file's trailer gives another length|\
         a sum is wrong: the file's bytes were altered|\
         a count is outside its limits, or the fourth byte has unknown bits|\
@@ -28,10 +28,10 @@ pub fn reason(number: u8, out: &mut [u8]) -> usize
         the timing figures contradict each other|\
         a core's set of partitions is empty or names one that is not there|\
         a task's core is not one of the table's|\
-        a task's period, deadline, jitter or execution time is not allowed|\
+        a task's period, deadline or execution time is outside its limits|\
         a task's request count is above 1000000|\
         there is no such task|\
-        a given start is above its task's deadline less its jitter|\
+        a given start is above its task's deadline|\
         a given start is above what the equation gives there|\
         the output is shorter than the file|\
         a bus table's s is 0, or another of its timing figures is not 0|\

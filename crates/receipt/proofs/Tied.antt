@@ -1,7 +1,7 @@
 -- The number, the receipt and the file say the same. Assumes nothing.
 use mathlib.Core.Path.{◌≡◌, refl, sym, ap, ◌∙◌}
 use mathlib.Core.Bool.{Bool, true, false}
-use mathlib.Core.Logic.{inl, inr}
+use mathlib.Core.Logic.{◌⊎◌, inl, inr}
 use mathlib.Core.List.{List, ◌++◌}
 use Prim.Native.Nat.{ℕ}
 use native.Mathlib.Omega.{arith}
@@ -12,7 +12,7 @@ use Rattle.laws.proofs.Tests.{clash}
 use Rattle.rules.specs.Chain.{is_accepted}
 use Rattle.rules.specs.File.{check_whole}
 use Rattle.rules.specs.Listing.{refused_line, receipt}
-use Rattle.receipt.specs.Status.{Tied}
+use Rattle.receipt.specs.Status.{receipt_status, Tied}
 use Rattle.receipt.proofs.Receipt.{receipt-whole, receipt-refused, status_whole, status_refused}
 
 -- no text is both: they begin with other letters

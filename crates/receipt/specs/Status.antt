@@ -1,5 +1,5 @@
 -- RULES 10.2: the number with which a program that writes a file's receipt ends, and what it says. Assumes nothing.
-use Rattle.std.specs.Prelude.{ℕ, ◌≡◌, true, cond, List, ◌++◌, ◌⊎◌, ◌↔◌}
+use Rattle.std.specs.Prelude.{ℕ, ◌≡◌, true, false, cond, List, ◌++◌, ◌⊎◌, ◌↔◌}
 use Rattle.laws.specs.Idioms.{text}
 use Rattle.laws.specs.Decimal.{decimal}
 use Rattle.rules.specs.Chain.{is_accepted}

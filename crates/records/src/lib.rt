@@ -3,13 +3,13 @@ ghost use Rattle.std.specs.Prelude.{◌≡◌, ◌+◌, ◌≤◌, map, length};
 ghost use Rattle.std.proofs.lemmas.List.Edits.{sets};
 ghost use Rattle.laws.specs.Idioms.{joined};
 ghost use Rattle.rules.specs.Tasks.{tasks_of};
-ghost use Rattle.rules.specs.File.{recordsAt, jitter_size, recordAt, recordBytes};
+ghost use Rattle.rules.specs.File.{recordsAt, recordAt, recordBytes};
 
 use rules::{Table, Task};
 
 // The record of a task (RULES 7.1).
 fn put_task(out: &mut [u8], at: usize, form: u8, task: Task)
-    requires { at + 29 + jitter_size form ≤ length out.old }
+    requires { at + 29 ≤ length out.old }
     ensures { out.new ≡ sets out.old at (recordBytes form task) }
 {
     bytes::put(out, at, task.core as u64, 1);
@@ -17,7 +17,6 @@ fn put_task(out: &mut [u8], at: usize, form: u8, task: Task)
     bytes::put(out, at + 9, task.period.0, 8);
     bytes::put(out, at + 17, task.deadline.0, 8);
     bytes::put(out, at + 25, task.requests as u64, 4);
-    bytes::put(out, at + 29, task.jitter.0, places::jitter_size(form));
 }
 
 // The records of the tasks, and of no place beyond them (RULES 2.7).

@@ -3,7 +3,7 @@ use Rattle.std.proofs.Common.{◌≡◌, ℕ, ◌+◌, ◌-◌, ◌*◌, ◌/◌
 use Rattle.laws.specs.Idioms.{◌/↑◌}
 use Rattle.laws.proofs.Fill.{set_keeps}
 use Rattle.laws.proofs.Filled.{only_default}
-use Rattle.releases.specs.Releases.{longest, most_releases, Small}
+use Rattle.releases.specs.Releases.{Small}
 
 -- a/b rounded up is at most m where a is at most m times b
 pub up_high : (a b m : ℕ) → 0 < b → a ≤ m * b → a /↑ b ≤ m
@@ -12,7 +12,7 @@ up_high a b m h g =
     omega arith
 
 -- a guess g that passes the test, of differences that wrap, is one less than the count
-pub guessed : (g : ℕ) {t b last over : ℕ} → (last + 1) % 2 ^ 64 ≡ t → (over + g * b) % 2 ^ 64 ≡ last → g * b ≤ most_releases * 10 ^ 12 → b ≤ 10 ^ 12 → over < b
+pub guessed : (g : ℕ) {t b last over : ℕ} → (last + 1) % 2 ^ 64 ≡ t → (over + g * b) % 2 ^ 64 ≡ last → g * b ≤ 10000 * 10 ^ 12 → b ≤ 10 ^ 12 → over < b
     → g + 1 ≡ t /↑ b
 guessed g {t} {b} {last} {over} one less small high near =
     let is : t ≡ g * b + over + 1 = omega arith in
@@ -21,15 +21,15 @@ guessed g {t} {b} {last} {over} one less small high near =
     omega arith
 
 -- the guess is small
-pub guess_product : (t inv : ℕ) → t ≤ longest → inv ≤ 1441151880 → t / 256 * inv ≤ 7812500000 * 1441151880
-guess_product t inv h g = let few : t / 256 ≤ 7812500000 = omega arith in mul-le-mul few g
+pub guess_product : (t inv : ℕ) → t ≤ 10 ^ 12 → inv ≤ 2882303762 → t / 256 * inv ≤ 3906250000 * 2882303762
+guess_product t inv h g = let few : t / 256 ≤ 3906250000 = omega arith in mul-le-mul few g
 
-pub guess_high : (x : ℕ) → x ≤ 7812500000 * 1441151880 → x / 2 ^ 49 ≤ most_releases
+pub guess_high : (x : ℕ) → x ≤ 3906250000 * 2882303762 → x / 2 ^ 50 ≤ 10000
 guess_high x h = omega arith
 
 -- no inverse is too large: none at first, then one more
 pub small-none : (n : ℕ) → Small (replicate n 0)
 small-none n = record { each = λ i. rw only_default zero-le }
 
-pub small-next : {l : List ℕ} {x : ℕ} (i : ℕ) → Small l → x ≤ 1441151880 → Small (set l i x)
-small-next {l} i so h = record { each = λ j. set_keeps (λ y. y ≤ 1441151880) l i j so.each h }
+pub small-next : {l : List ℕ} {x : ℕ} (i : ℕ) → Small l → x ≤ 2882303762 → Small (set l i x)
+small-next {l} i so h = record { each = λ j. set_keeps (λ y. y ≤ 2882303762) l i j so.each h }

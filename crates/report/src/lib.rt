@@ -1,5 +1,5 @@
 // The report of a salvage (RULES 8.5): its line, into a lent buffer.
-ghost use Rattle.std.specs.Prelude.{◌≤◌, length};
+ghost use Rattle.std.specs.Prelude.{◌≡◌, ◌≤◌, length};
 ghost use Rattle.rules.specs.Listing.{report};
 ghost use Rattle.text.specs.Put.{Put, Given};
 ghost use Rattle.report.specs.Counts.{counts_line};

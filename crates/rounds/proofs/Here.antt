@@ -38,7 +38,7 @@ module _ (l : Lent) (j : Judgeable l) (i : ℕ) (here : i < l.board.tasks) (d : 
 -- its terms can be judged, and what that gives
 module _ (l : Lent) (i : ℕ) {own : Own} (is : own ≡ own_at l i) where
   abbrev terms : Terms
-  terms = terms_of own l.begins l.periods l.jitters l.execs l.asks
+  terms = terms_of own l.begins l.periods l.execs l.asks
 
   pub here-ready : Judgeable l → {start : ℕ} → i < l.board.tasks → start ≤ get_or l.latest i 0 → Ready terms start
   here-ready j here fits = rw is (j.ready i _ here fits)

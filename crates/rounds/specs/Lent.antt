@@ -18,20 +18,19 @@ use Rattle.own.specs.Own.{own_of}
 use Rattle.unjudged.specs.Unjudged.{first_after}
 use Rattle.prices.specs.declared.Priced.{Priced}
 
--- by the tasks' numbers: the core and the latest allowed response; core after core: T, J, C and H, and where each core's tasks begin
+-- by the tasks' numbers: the core and the latest allowed response; core after core: T, C and H, and where each core's tasks begin
 pub record Lent : Type 0 where
   pub board : Priced
   pub core : List ℕ
   pub latest : List ℕ
   pub begins : List ℕ
   pub periods : List ℕ
-  pub jitters : List ℕ
   pub execs : List ℕ
   pub asks : List ℕ
 
-abbrev pub lent_of : Priced → List ℕ → List ℕ → List ℕ → List ℕ → List ℕ → List ℕ → List ℕ → Lent
-lent_of board core latest begins periods jitters execs asks =
-    record { board = board; core = core; latest = latest; begins = begins; periods = periods; jitters = jitters; execs = execs; asks = asks }
+abbrev pub lent_of : Priced → List ℕ → List ℕ → List ℕ → List ℕ → List ℕ → List ℕ → Lent
+lent_of board core latest begins periods execs asks =
+    record { board = board; core = core; latest = latest; begins = begins; periods = periods; execs = execs; asks = asks }
 
 -- where the task in place i stands: after those before it on its core
 unfoldable pub place_at : Lent → ℕ → ℕ
@@ -45,7 +44,7 @@ abbrev pub field_own : Lent → ℕ → Own
 field_own l i = own_of l.board.cores (cost_at l i) l.latest l.begins l.execs l.asks (get_or l.core i 0 - 1) i (place_at l i)
 
 abbrev pub terms_at : Lent → ℕ → Terms
-terms_at l i = terms_of (field_own l i) l.begins l.periods l.jitters l.execs l.asks
+terms_at l i = terms_of (field_own l i) l.begins l.periods l.execs l.asks
 
 -- what judging task number k gives, from its start
 unfoldable pub climbed_at : Lent → List ℕ → ℕ → Climbed

@@ -15,13 +15,12 @@ pub fn judge_lent(
     latest: &[u64; 32],
     starts: &[u64; 32],
     from: &[usize; 9],
-    periods: &[u64; 33],
-    jitters: &[u64; 33],
+    spans: &[u64; 33],
     costs: &[u64; 33],
     asks: &[u64; 33],
 ) -> AllJudged
     ghost l: { Lent }
-    requires asks_value { lent_of board core.now latest.now from.now periods.now jitters.now costs.now asks.now ≡ l }
+    requires asks_value { lent_of board core.now latest.now from.now spans.now costs.now asks.now ≡ l }
     requires judgeable { Judgeable l }
     ensures { result ≡ judged_lent l starts.now }
 {
@@ -29,7 +28,7 @@ pub fn judge_lent(
     let mut refusal = late(board.tasks, latest, starts);
     let mut end = unless_refused(refusal, board.tasks);
     let mut invs = [0u64; 33];
-    releases::inverses(board.tasks, periods, &mut invs);
+    releases::inverses(board.tasks, spans, &mut invs);
     let doubled = floors::doubled(board.cores, from, asks);
     let mut next = *from;
     let mut i: usize = 0;
@@ -50,7 +49,7 @@ pub fn judge_lent(
             costs,
             asks,
         );
-        let climbed = climb::settle(own, from, periods, jitters, &invs, costs, asks, starts[i]);
+        let climbed = climb::settle(own, from, spans, &invs, costs, asks, starts[i]);
         if climbed.high {
             refusal = refused(14, (i as u8) + 1);
             answers = no_answers();

@@ -17,14 +17,10 @@ says_salvaged fourth = bit fourth 1
 abbrev pub is_salvaged : Table → Bool
 is_salvaged t = says_salvaged t.fourth
 
--- RULES 2.1: bit 2, of a fourth byte
-unfoldable pub says_jitter : ℕ → Bool
-says_jitter fourth = bit fourth 2
-
 -- RULES 7.8: bit 1 is set, and the other bits are as they were
 unfoldable pub marked : ℕ → ℕ
 marked fourth = cond (says_salvaged fourth) fourth (fourth + 2)
 
--- RULES 2.1: no bit but bits 0 to 2 is set
+-- RULES 2.1: no bit but bits 0 and 1 is set
 unfoldable pub fourth_allowed : ℕ → Bool
-fourth_allowed fourth = ltb fourth 8
+fourth_allowed fourth = ltb fourth 4

@@ -3,7 +3,7 @@ use Rattle.std.specs.Prelude.{Bool, ◌&&◌, leb, eqb}
 use Rattle.rules.specs.declared.Task.{Task}
 use Rattle.rules.specs.declared.Table.{Table}
 use Rattle.laws.specs.Idioms.{every, up_to, entry}
-use Rattle.rules.specs.Tasks.{C, T, D, H, J, task_of}
+use Rattle.rules.specs.Tasks.{C, T, D, H, task_of}
 use Rattle.rules.specs.Cores.{set_of}
 
 -- RULES 6.4: the same in all but the tasks
@@ -18,8 +18,7 @@ same_board a b =
 
 -- RULES 6.4: the same task with C and H as they were or raised, and T as it was or shortened
 unfoldable pub worse_task : Task → Task → Bool
-worse_task i j =
-    eqb i.core j.core && eqb (D i) (D j) && eqb (J i) (J j) && leb (C i) (C j) && leb (H i) (H j) && leb (T j) (T i)
+worse_task i j = eqb i.core j.core && eqb (D i) (D j) && leb (C i) (C j) && leb (H i) (H j) && leb (T j) (T i)
 
 -- RULES 6.4
 unfoldable pub worsens : Table → Table → Bool

@@ -18,11 +18,11 @@ ends_early s = ltb (length s) (recordsAt (form_in s) (cores_in s))
 unfoldable pub reaches : List ℕ → ℕ → Bool
 reaches s k = leb (recordAt (form_in s) (cores_in s) k + recordSize (form_in s)) (length s)
 
-unfoldable pub task_fault : ℕ → ℕ → Task → Bool
-task_fault cores fourth i = core_fault cores i || time_fault fourth i || request_fault i
+unfoldable pub task_fault : ℕ → Task → Bool
+task_fault cores i = core_fault cores i || time_fault i || request_fault i
 
 unfoldable pub is_sound : List ℕ → ℕ → Bool
-is_sound s k = reaches s k && not (task_fault (cores_in s) (form_in s) (recordTask (recordIn s k)))
+is_sound s k = reaches s k && not (task_fault (cores_in s) (recordTask (recordIn s k)))
 
 -- of the m numbers from k on, how many pass a test before the first that does not
 unfoldable pub leading : (ℕ → Bool) → ℕ → ℕ → ℕ

@@ -26,7 +26,7 @@ fn tell(named: bool, salvaged: Salvaged) -> bool {
 // The file that a word names; word 0 is standard input.
 fn salvage(word: usize, file: &[u8]) -> u8 {
     let named = word != 0;
-    let mut new = [0u8; 1246];
+    let mut new = [0u8; 990];
     let salvaged = salvaging::salvage(file, &mut new);
     let refusal = salvaged.refusal;
     let done = refusal.number == 0;
@@ -41,7 +41,7 @@ fn salvage(word: usize, file: &[u8]) -> u8 {
 }
 
 fn take(word: usize) -> u8 {
-    let mut file = [0u8; 9992];
+    let mut file = [0u8; 7952];
     match console::load(b"salvage: ", word, &mut file) {
         Got::Failed => 3,
         Got::Bytes(n) => salvage(word, input::front(&file, n)),

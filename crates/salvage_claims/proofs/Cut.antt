@@ -47,7 +47,7 @@ module _ (s : List ℕ) (n : ℕ) (c : CutFile s n) where
       let e : 1 + i ≡ i + 1 = omega arith in
       let whole = by_fault (take n s) (i + 1) (omega (arith, end-cut (i + 1), fits s n c i less, cut-length s n within reaches)) in
       let faultless = record-faultless s table-accepted (i + 1) (omega arith) (omega arith) in
-      rw (e, ← whole, form-cut s n within reaches, cores-cut s n within reaches, record-cut s n within reaches (i + 1) (fits s n c i less), faultless)
+      rw (e, ← whole, cores-cut s n within reaches, record-cut s n within reaches (i + 1) (fits s n c i less), faultless)
 
   unsound_next : fitting s n < tasks_in s → is_sound (take n s) (1 + fitting s n) ≡ false
   unsound_next less =
@@ -75,7 +75,7 @@ module _ (s : List ℕ) (n : ℕ) (c : CutFile s n) where
   unfolding check_table
   board-passed = rw (board-cut s n within reaches) (both-accepted (check_board (decode s)) (check_tasks (decode s)) table-accepted).0
 
-  module _ (out : List ℕ) (long : 1246 ≤ length out) where
+  module _ (out : List ℕ) (long : 990 ≤ length out) where
     done : Succeeds (take n s) out
     done = passes (take n s) out (record {
       refused_file = refused-cut;

@@ -5,8 +5,7 @@ use Prim.Native.Nat.{ℕ, ◌+◌, ◌-◌, ◌/◌, ◌≤◌, ◌<◌}
 use native.Mathlib.Nat.{le-div_iff_mul-le, mul-div-le, lt-mul-div-succ}
 use native.Mathlib.Omega.{arith}
 use Rattle.rules.specs.File.{recordsAt, recordSize, recordAt, cores_in, tasks_in, form_in}
-use Rattle.facts.proofs.Sizes.{record-limit}
-use Rattle.facts.proofs.Places.{record-place, record-within}
+use Rattle.places.proofs.Places.{record-limit, record-place, record-within}
 use Rattle.salvage_claims.specs.Cut.{CutFile, fitting}
 
 module _ (s : List ℕ) (n : ℕ) (c : CutFile s n) where

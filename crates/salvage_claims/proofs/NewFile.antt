@@ -9,7 +9,7 @@ use Rattle.rules.specs.Chain.{accepted}
 use Rattle.rules.specs.File.{encode, form_in, first_tasks}
 use Rattle.rules.specs.Operations.{reading}
 use Rattle.rules.specs.Salvage.{kept, salvaged_table, salvaging, salvaged_out}
-use Rattle.kept.proofs.Marked.{marked-says, marked-bus, marked-jitter}
+use Rattle.kept.proofs.Marked.{marked-says, marked-bus}
 use Rattle.salvage_claims.specs.NewFile.{Succeeds, new_file, NewFile}
 use Rattle.salvage_claims.proofs.Passed.{passed}
 use Rattle.salvage_claims.proofs.SalvagedTable.{table-read, same_bytes, same_record}
@@ -35,7 +35,6 @@ module _ (s out : List ℕ) (done : Succeeds s out) where
         read = new_read;
         says_so = rw new_read (marked-says (form_in s));
         same_kind = marked-bus (form_in s);
-        same-jitter = marked-jitter (form_in s);
         bytes_stay = λ b. rw (file_is, kept_is) (same_bytes s p.late b);
         record-stays = λ b k low high. rw file_is (same_record s p.late b k low (rw kept_is at high));
         fits = rw done p.room;

@@ -16,7 +16,7 @@ use Rattle.rules.specs.Refusals.{check_board}
 use Rattle.rules.specs.File.{recordsAt, recordSize, recordAt, body, encode, recordIn, cores_in, form_in, decode}
 use Rattle.rules.specs.Operations.{reading}
 use Rattle.rules.specs.Salvage.{ends_early, kept, salvaged_table}
-use Rattle.facts.proofs.Places.{records-limit, record-place, record-within}
+use Rattle.places.proofs.Places.{records-limit, record-place, record-within}
 use Rattle.kept.proofs.Kept.{kept_reach, salvaged-accepted}
 use Rattle.file_claims.specs.Files.{Shape, cleared}
 use Rattle.file_claims.proofs.Places.{header}
@@ -37,7 +37,7 @@ module _ (s : List ℕ) (board : is_accepted (check_board (decode s)) ≡ true) 
   pub table-read : ◌≡◌ {A = Read} (reading (encode (salvaged_table s))) (record { refusal = accepted; table = salvaged_table s })
   table-read = return.read_written (salvaged_table s) table-shape (salvaged-accepted s board some) ∙ rw table-cleared
 
-  pub table-small : length (encode (salvaged_table s)) ≤ 1246
+  pub table-small : length (encode (salvaged_table s)) ≤ 990
   table-small = return_in_place.room (salvaged_table s) table-shape (salvaged-accepted s board some)
 
 -- ---- its bytes, up to the end of its last record

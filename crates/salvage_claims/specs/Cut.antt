@@ -22,6 +22,6 @@ pub record TakenBack (s out : List ℕ) (n : ℕ) : Type 0 where
   -- and they are those of the file before it was cut
   pub records : (k : ℕ) → 1 ≤ k → k ≤ fitting s n → recordIn (take n s) k ≡ recordIn s k
 
--- into any buffer of 1246 bytes, which no new file exceeds
+-- into any buffer of 990 bytes, which no new file exceeds
 pub record Cut : Type 0 where
-  pub taken_back : (s out : List ℕ) (n : ℕ) → CutFile s n → 1246 ≤ length out → TakenBack s out n
+  pub taken_back : (s out : List ℕ) (n : ℕ) → CutFile s n → 990 ≤ length out → TakenBack s out n

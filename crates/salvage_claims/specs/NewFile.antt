@@ -3,7 +3,7 @@
 use Rattle.std.specs.Prelude.{ℕ, ◌+◌, ◌-◌, ◌≤◌, ◌<◌, ◌≡◌, true, false, ◌⊎◌, ◌↔◌, ◌≢◌, List, length, take, drop}
 use Rattle.laws.specs.Idioms.{part}
 use Rattle.laws.specs.Bytes.{Bytes}
-use Rattle.rules.specs.Kinds.{says_bus, says_jitter, marked, is_salvaged}
+use Rattle.rules.specs.Kinds.{says_bus, marked, is_salvaged}
 use Rattle.rules.specs.Chain.{accepted, is_accepted}
 use Rattle.rules.specs.File.{recordSize, recordAt, recordTask, recordIn, cores_in, tasks_in, form_in, first_tasks}
 use Rattle.rules.specs.Operations.{reading}
@@ -26,7 +26,6 @@ pub record NewFile (s out : List ℕ) : Type 0 where
   pub read : reading (new_file s out) ≡ record { refusal = accepted; table = first_tasks s (marked (form_in s)) (salvaging s out).kept }
   pub says_so : is_salvaged (reading (new_file s out)).table ≡ true
   pub same_kind : says_bus (marked (form_in s)) ≡ says_bus (form_in s)
-  pub same-jitter : says_jitter (marked (form_in s)) ≡ says_jitter (form_in s)
   -- from the timing figures to the end of the last kept record no byte is altered, and so no kept record is
   pub bytes_stay : Bytes s → part (new_file s out) 4 (kept_end s out - 4) ≡ part s 4 (kept_end s out - 4)
   pub record-stays : Bytes s → (k : ℕ) → 1 ≤ k → k ≤ (salvaging s out).kept → recordIn (new_file s out) k ≡ recordIn s k
@@ -38,7 +37,7 @@ pub record NewFile (s out : List ℕ) : Type 0 where
 abbrev pub Lacks : List ℕ → ℕ → Type 0
 Lacks s k =
     (length s < recordAt (form_in s) (cores_in s) k + recordSize (form_in s))
-    ⊎ (task_fault (cores_in s) (form_in s) (recordTask (recordIn s k)) ≡ true)
+    ⊎ (task_fault (cores_in s) (recordTask (recordIn s k)) ≡ true)
 
 pub record Counts (s out : List ℕ) : Type 0 where
   pub promised : (salvaging s out).promised ≡ tasks_in s

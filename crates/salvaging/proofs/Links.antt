@@ -8,13 +8,14 @@ use lib.Dec.{ltb}
 use lib.ListN.{length}
 use borrow.Author.Tests.{lt-ltb, le-ltb, ltb-false, eq-eqb, ne_eqb}
 use Rattle.rules.specs.declared.Refusal.{Refusal}
+use Rattle.rules.specs.declared.Salvaged.{Salvaged}
 use Rattle.rules.specs.declared.Written.{Written}
 use Rattle.rules.specs.Chain.{accepted, refused, is_accepted, ◌or_else◌, given}
 use Rattle.rules.specs.Refusals.{check_board}
 use Rattle.rules.specs.File.{recordsAt, cores_in, tasks_in, form_in, encode, decode}
 use Rattle.rules.specs.Operations.{check_file, check_write, writing, out_after}
 use Rattle.rules.specs.Salvage.{ends_early, kept, stopped, salvaged_table, check_salvage, salvaging, salvaged_out}
-use Rattle.facts.proofs.Places.{records-limit}
+use Rattle.places.proofs.Places.{records-limit}
 use Rattle.facts.proofs.Accepted.{counts}
 use Rattle.facts.proofs.Chain.{both-accepted, no_fault}
 use Rattle.writer.specs.Answers.{Wrote}
@@ -66,7 +67,7 @@ module _ (s : List ℕ) where
     front-late = no_fault 16 0 (ends_early s) (both-accepted (given 19 0 (is_accepted (check_file s))) (given 17 0 (ends_early s)) front-links.0).1
 
   -- what a board that passed leaves of the counts
-  pub board-counts : is_accepted (check_board (decode s)) ≡ true → (cores_in s ≤ 8) × (kept s ≤ 32) × (form_in s < 8)
+  pub board-counts : is_accepted (check_board (decode s)) ≡ true → (cores_in s ≤ 8) × (kept s ≤ 32) × (form_in s < 4)
   unfolding decode
   board-counts board =
       let ((cores, partitions), (tasks, fourth)) = counts (decode s) board in

@@ -20,5 +20,5 @@ no_salvage refusal = record { refusal = refusal; length = 0; promised = 0; kept 
 pub record Salvages (s before : List ℕ) (answer : Salvaged) (after : List ℕ) : Type 0 where
   pub answered : answer ≡ salvaging s before
   -- no file is longer (RULES 7.5)
-  pub small : answer.length ≤ 1246
+  pub small : answer.length ≤ 990
   pub stored : after ≡ salvaged_out s before

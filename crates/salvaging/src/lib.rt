@@ -1,7 +1,6 @@
 // What is whole of a table file that was cut, taken back and written as a new file that says so (RULES 7.7, 7.8).
-ghost use Rattle.std.specs.Prelude.{◌≡◌, true, false, cond, ◌+◌, ◌≤◌, ◌<◌, eqb};
+ghost use Rattle.std.specs.Prelude.{◌≡◌, true, false, cond, ◌+◌, ◌≤◌, eqb};
 ghost use Rattle.rules.specs.Chain.{is_accepted};
-ghost use Rattle.rules.specs.Kinds.{marked};
 ghost use Rattle.rules.specs.Refusals.{check_board};
 ghost use Rattle.rules.specs.File.{decode};
 ghost use Rattle.rules.specs.Salvage.{ends_early, kept, salvaged_table, salvaging, salvaged_out};
@@ -28,17 +27,6 @@ fn front_refusal(file: &[u8]) -> Refusal
     contents::board(file)
 }
 
-// RULES 7.8: bit 1 set, and the other bits as they are, of a fourth byte that passes check 5.
-fn mark_salvaged(fourth: u8) -> u8
-    requires { fourth < 8 }
-    ensures { result ≡ marked fourth }
-{
-    if basics::says_salvaged(fourth) {
-        return fourth;
-    }
-    fourth + 2
-}
-
 // The new file, of a file with a board and n kept records; 15 where it does not fit, and nothing changes.
 fn write_kept(file: &[u8], n: u8, out: &mut [u8]) -> Written
     requires file_value { ends_early file.now ≡ false }
@@ -46,7 +34,7 @@ fn write_kept(file: &[u8], n: u8, out: &mut [u8]) -> Written
     requires n_value { n ≡ kept file.now }
     ensures { Wrote (salvaged_table file.now) out.old result out.new }
 {
-    let table = contents::table(file, mark_salvaged(file[3]), n);
+    let table = contents::table(file, basics::mark_salvaged(file[3]), n);
     writer::write(table, out)
 }
 
@@ -102,7 +90,7 @@ pub fn salvage(file: &[u8], out: &mut [u8]) -> Salvaged
 
 // All that salvaging tells, in one number.
 fn code(r: Salvaged) -> u64
-    requires { r.length ≤ 1246 }
+    requires { r.length ≤ 990 }
     ensures { result ≡ salvage_code r }
 {
     let refusal = r.refusal;

@@ -1,11 +1,11 @@
--- How many tasks a file shows; where the record of a task starts and how long it is, and where there is none. Assumes nothing.
+-- How many tasks a file shows; where the record of a task starts, and where there is none. Assumes nothing.
 use mathlib.Core.Path.{◌≡◌}
 use mathlib.Core.List.{List}
-use Prim.Native.Nat.{ℕ, ◌+◌, ◌*◌}
+use Prim.Native.Nat.{ℕ}
 use borrow.Author.Tests.{eq-eqb, ne_eqb}
-use Rattle.rules.specs.File.{cores_in, tasks_in, form_in, recordSize, recordAt}
+use Rattle.rules.specs.File.{cores_in, tasks_in, form_in, recordAt}
 use Rattle.rules.specs.Operations.{check_file, check_view}
-use Rattle.shown.specs.Shown.{task_count, recordTold}
+use Rattle.shown.specs.Shown.{task_count, recordPlace}
 
 module _ (s : List ℕ) where
   pub no_tasks : ((check_file s).number ≡ 0 → ⊥) → task_count s ≡ 0
@@ -17,10 +17,10 @@ module _ (s : List ℕ) where
   tasks-there passes = rw (eq-eqb _ _ passes)
 
 module _ (s : List ℕ) (k : ℕ) where
-  pub no_record : ((check_view s k).number ≡ 0 → ⊥) → recordTold s k ≡ 0
-  unfolding recordTold
+  pub no_record : ((check_view s k).number ≡ 0 → ⊥) → recordPlace s k ≡ 0
+  unfolding recordPlace
   no_record refused = rw (ne_eqb _ _ refused)
 
-  pub record-there : (check_view s k).number ≡ 0 → recordTold s k ≡ recordAt (form_in s) (cores_in s) k + 65536 * recordSize (form_in s)
-  unfolding recordTold
+  pub record-there : (check_view s k).number ≡ 0 → recordPlace s k ≡ recordAt (form_in s) (cores_in s) k
+  unfolding recordPlace
   record-there passes = rw (eq-eqb _ _ passes)

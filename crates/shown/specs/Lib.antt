@@ -1,3 +1,3 @@
 -- What the contracts of this crate cite beside the rules.
---     Shown   how many tasks an accepted file has, and where a task's record starts and how long it is
+--     Shown   how many tasks an accepted file has, and where a task's record starts
 pub mod Shown

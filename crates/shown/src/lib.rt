@@ -1,6 +1,6 @@
-// What the header of an accepted file shows: how many tasks it has, and where a task's record starts and how long it is.
+// What the header of an accepted file shows: how many tasks it has, and where a task's record starts.
 ghost use Rattle.std.specs.Prelude.{◌≡◌};
-ghost use Rattle.shown.specs.Shown.{task_count, recordTold};
+ghost use Rattle.shown.specs.Shown.{task_count, recordPlace};
 
 // How many tasks a file has, 0 where it is refused.
 pub fn task_count(file: &[u8]) -> usize
@@ -13,15 +13,13 @@ pub fn task_count(file: &[u8]) -> usize
     places::size(file[2])
 }
 
-// Where a task's record starts in the file and how many bytes it has, in one number, 0 where there is none: the place of what `view::view` shows.
-pub fn record_told(file: &[u8], task: u8) -> u32
-    ensures { result ≡ recordTold file.now task }
+// Where a task's record starts in the file, 0 where there is none: the position of what `view::view` shows.
+pub fn record_place(file: &[u8], task: u8) -> usize
+    ensures { result ≡ recordPlace file.now task }
 {
     let refusal = view::view_refusal(file, task);
     if refusal.number != 0 {
         return 0;
     }
-    let form = file[3];
-    let at = places::record_at(form, file[0], places::size(task) - 1);
-    (at + 65536 * places::record_size(form)) as u32
+    places::record_at(file[3], file[0], places::size(task) - 1)
 }

@@ -15,8 +15,6 @@ use Rattle.rules.specs.Operations.{read_to_judge, judge_all, fresh_starts}
 use Rattle.rules.specs.Listing.{verdict_words, task_line, is_miss, last_line, table_lines, refused_line, listing}
 use Rattle.status.specs.Status.{all_hold, file_status}
 use Rattle.status.specs.Tied.{EndsIn, TiedToListing}
-use Rattle.misses.specs.Last.{missed}
-use Rattle.status.proofs.Missing.{all-hold_is}
 use Rattle.status.proofs.Decided.{refused_status, accepted_status}
 use Rattle.status.proofs.Texts.{Lined, lined_line, lined_lines, told, told-hold, told-miss, told-refused}
 
@@ -56,6 +54,16 @@ module _ {l : List ℕ} where
   was-refused (miss k e) h = absurd (omega arith)
   was-refused (refuse n e) h = (n, e)
 
+-- ---- the tasks that miss
+
+hold_or_miss : (p : ℕ → Bool) (l : List ℕ) → every (λ k. not (p k)) l ≡ is_empty (those p l)
+hold_or_miss p [] = refl
+hold_or_miss p (x ∷ xs) = go (p x) (those p xs) (hold_or_miss p xs)
+  where
+    go : (b : Bool) (ms : List ℕ) {r : Bool} → r ≡ is_empty ms → not b && r ≡ is_empty (cond b (x ∷ ms) ms)
+    go true ms e = refl
+    go false ms e = e
+
 -- ---- the lines of a table
 
 last-ends : {l : List ℕ} → Lined l → (ms : List ℕ) → Ends (l ++ last_line ms) (cond (is_empty ms) 0 1)
@@ -70,10 +78,12 @@ module _ (t : Table) (answers : List Answer) where
       lined_line (decimal k ∷ decimal (core_of t k) ∷ [] ++ verdict_words a.verdict ++ decimal a.rounds ∷ [])
 
   table-ends : Ends (table_lines t answers) (cond (all_hold t.tasks answers) 0 1)
-  unfolding table_lines missed
+  unfolding table_lines all_hold
   table-ends =
-      let rows = lined_lines (λ k. task_line k (core_of t k) (entry (misses 0) answers k)) task_lined (up_to t.tasks) (text "task core verdict bound by rounds", refl) in
-      rw (all-hold_is t.tasks answers) (last-ends rows (missed answers t.tasks))
+      let tasks = up_to t.tasks in
+      let missed : ℕ → Bool = λ k. is_miss (entry (misses 0) answers k).verdict in
+      let rows = lined_lines (λ k. task_line k (core_of t k) (entry (misses 0) answers k)) task_lined tasks (text "task core verdict bound by rounds", refl) in
+      rw (hold_or_miss missed tasks) (last-ends rows (those missed tasks))
 
 -- ---- the listing
 

@@ -21,26 +21,24 @@ pub fn per_task(table: Table, core: &mut [u8; 32], latest: &mut [u64; 32])
     }
 }
 
-// T, J, C and H of the tasks, in an order of their places.
+// T, C and H of the tasks, in an order of their places.
 pub fn columns(
     table: Table,
     order: &[usize; 33],
-    periods: &mut [u64; 33],
-    jitters: &mut [u64; 33],
+    spans: &mut [u64; 33],
     costs: &mut [u64; 33],
     asks: &mut [u64; 33],
 )
     requires sound { Sound table × PlacesBelow table.tasks order.now }
-    requires periods_len { (length periods.old ≡ 33) × (length jitters.old ≡ 33) × (length costs.old ≡ 33) × (length asks.old ≡ 33) }
-    ensures { Columns table.task table.tasks order.now periods.new jitters.new costs.new asks.new }
+    requires spans_len { (length spans.old ≡ 33) × (length costs.old ≡ 33) × (length asks.old ≡ 33) }
+    ensures { Columns table.task table.tasks order.now spans.new costs.new asks.new }
 {
     let n = table.tasks as usize;
     let mut k: usize = 0;
     while k < n {
         let at = order[k];
         let task = table.task[at];
-        periods[k] = task.period.0;
-        jitters[k] = task.jitter.0;
+        spans[k] = task.period.0;
         costs[k] = task.exec.0;
         asks[k] = task.requests as u64;
         k += 1;

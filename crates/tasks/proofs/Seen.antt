@@ -31,21 +31,21 @@ module _ {n : ℕ} {fault : ℕ → Bool} {m i : ℕ} where
   seen_told (found {x = x} some e) h = rw (ne_eqb x 0 (λ z. omega arith)) e
 
 -- of the tasks by their numbers
-pub record SeenAll (cores fourth : ℕ) (task : ℕ → Task) (m i : ℕ) (s : Faults) : Type 0 where
+pub record SeenAll (cores : ℕ) (task : ℕ → Task) (m i : ℕ) (s : Faults) : Type 0 where
   pub core : Seen 9 (λ k. core_fault cores (task k)) m i s.core
-  pub time : Seen 10 (λ k. time_fault fourth (task k)) m i s.time
+  pub time : Seen 10 (λ k. time_fault (task k)) m i s.time
   pub request : Seen 11 (λ k. request_fault (task k)) m i s.request
 
-module _ (cores fourth : ℕ) (task : ℕ → Task) (m : ℕ) where
-  pub seen_none : SeenAll cores fourth task m 0 no_faults
+module _ (cores : ℕ) (task : ℕ → Task) (m : ℕ) where
+  pub seen_none : SeenAll cores task m 0 no_faults
   seen_none = record { core = clear (left-all _ _ _); time = clear (left-all _ _ _); request = clear (left-all _ _ _) }
 
-  pub seen_task : {i : ℕ} {s r : Faults} {x : Task} → SeenAll cores fourth task m i s → i < m → x ≡ task (i + 1) → r ≡ with_task s (i + 1) cores fourth x
-      → SeenAll cores fourth task m (i + 1) r
+  pub seen_task : {i : ℕ} {s r : Faults} {x : Task} → SeenAll cores task m i s → i < m → x ≡ task (i + 1) → r ≡ with_task s (i + 1) cores x
+      → SeenAll cores task m (i + 1) r
   unfolding with_task
   seen_task seen h is e =
       rw (e, is) (record { core = seen_next seen.core h; time = seen_next seen.time h; request = seen_next seen.request h })
 
-  pub seen_all : {i : ℕ} {s : Faults} → SeenAll cores fourth task m i s → m ≤ i → told_by s ≡ tasks_refusal cores fourth task m
+  pub seen_all : {i : ℕ} {s : Faults} → SeenAll cores task m i s → m ≤ i → told_by s ≡ tasks_refusal cores task m
   unfolding told_by tasks_refusal
   seen_all seen h = rw (seen_told seen.core h, seen_told seen.time h, seen_told seen.request h)

@@ -13,10 +13,10 @@ earliest seen k fault = cond (eqb seen 0) (cond fault k 0) seen
 abbrev pub no_faults : Faults
 no_faults = record { core = 0; time = 0; request = 0 }
 
-unfoldable pub with_task : Faults → ℕ → ℕ → ℕ → Task → Faults
-with_task seen k cores fourth i = record {
+unfoldable pub with_task : Faults → ℕ → ℕ → Task → Faults
+with_task seen k cores i = record {
   core = earliest seen.core k (core_fault cores i);
-  time = earliest seen.time k (time_fault fourth i);
+  time = earliest seen.time k (time_fault i);
   request = earliest seen.request k (request_fault i);
 }
 

@@ -1,15 +1,15 @@
-// Checks 9 to 11, of one task, and what a walk over the tasks keeps of them.
+// Checks 9 to 11, of a table's tasks, in one walk over them.
 ghost use Rattle.std.specs.Prelude.{◌≡◌};
 ghost use Rattle.rules.specs.Tasks.{no_task};
-ghost use Rattle.rules.specs.Refusals.{time_fault};
+ghost use Rattle.rules.specs.Refusals.{time_fault, check_tasks};
 ghost use Rattle.tasks.specs.Faults.{earliest, no_faults, with_task, told_by};
 
-use basics::{latest, outside, refused, says_jitter};
-use rules::{Picos, Refusal, Task};
+use basics::{outside, refused};
+use rules::{Picos, Refusal, Table, Task};
 
-// Is T, D, J or C outside its limits (RULES 2.2), or is there a J where the fourth byte says that there is none (RULES 2.1)?
-fn time_fault(fourth: u8, x: Task) -> bool
-    ensures { result ≡ time_fault fourth x }
+// Is T, D or C outside its limits (RULES 2.2)?
+fn time_fault(x: Task) -> bool
+    ensures { result ≡ time_fault x }
 {
     if outside(100000000, 1000000000000, x.period.0) {
         return true;
@@ -17,17 +17,7 @@ fn time_fault(fourth: u8, x: Task) -> bool
     if outside(1, x.period.0, x.deadline.0) {
         return true;
     }
-    if x.deadline.0 <= x.jitter.0 {
-        return true;
-    }
-    let late = latest(x);
-    if outside(1, late, x.exec.0) {
-        return true;
-    }
-    if says_jitter(fourth) {
-        return false;
-    }
-    x.jitter.0 != 0
+    outside(1, x.deadline.0, x.exec.0)
 }
 
 // The first task at fault of each kind, 9 to 11; 0 where none is.
@@ -58,12 +48,12 @@ pub fn no_faults() -> Faults
 }
 
 // What has been seen, and task number k.
-pub fn noted(seen: Faults, k: u8, cores: u8, fourth: u8, x: Task) -> Faults
-    ensures { result ≡ with_task seen k cores fourth x }
+pub fn noted(seen: Faults, k: u8, cores: u8, x: Task) -> Faults
+    ensures { result ≡ with_task seen k cores x }
 {
     Faults {
         core: earlier(seen.core, k, outside(1, cores as u64, x.core as u64)),
-        time: earlier(seen.time, k, time_fault(fourth, x)),
+        time: earlier(seen.time, k, time_fault(x)),
         request: earlier(seen.request, k, 1000000 < x.requests),
     }
 }
@@ -93,6 +83,22 @@ pub fn no_task() -> Task
         period: Picos(0),
         deadline: Picos(0),
         requests: 0,
-        jitter: Picos(0),
     }
+}
+
+// 9 to 11: the tasks, in one walk. Beyond the array there is no task.
+pub fn check(t: Table) -> Refusal
+    ensures { result ≡ check_tasks t }
+{
+    let mut seen = no_faults();
+    let mut i: u8 = 0;
+    while i < t.tasks {
+        let mut x = no_task();
+        if i < 32 {
+            x = t.task[i as usize];
+        }
+        seen = noted(seen, i + 1, t.cores, x);
+        i += 1;
+    }
+    told(seen)
 }

@@ -1,6 +1,5 @@
 // F without overflow, of plain terms: the tasks of all cores, core after core.
-ghost use Rattle.std.specs.Prelude.{◌≡◌, ◌*◌, ◌^◌, min};
-ghost use Rattle.laws.specs.Idioms.{Within};
+ghost use Rattle.std.specs.Prelude.{◌≡◌, ◌*◌, ◌^◌, ◌≤◌, min};
 ghost use Rattle.releases.specs.Releases.{Small};
 ghost use Rattle.terms.specs.Terms.{Fair, terms_of, applied};
 
@@ -49,22 +48,21 @@ pub fn apply(
     own: Own,
     from: &[usize; 9],
     periods: &[u64; 33],
-    jitters: &[u64; 33],
     invs: &[u64; 33],
     execs: &[u64; 33],
     asks: &[u64; 33],
     t: u64,
 ) -> Applied
-    requires within { Within 1 (10 ^ 12) t × Small invs.now }
-    requires fair { Fair (terms_of own from.now periods.now jitters.now execs.now asks.now) }
-    ensures { result ≡ applied (terms_of own from.now periods.now jitters.now execs.now asks.now) t }
+    requires t_bound { (t ≤ 10 ^ 12) × Small invs.now }
+    requires fair { Fair (terms_of own from.now periods.now execs.now asks.now) }
+    ensures { result ≡ applied (terms_of own from.now periods.now execs.now asks.now) t }
 {
-    let higher = counts::asked_higher(own.first, own.place, periods, jitters, invs, execs, asks, t);
+    let higher = counts::asked_higher(own.first, own.place, periods, invs, execs, asks, t);
     let exec = own.exec + higher.execs;
     let requests = own.requests + higher.requests;
     let delay = own.delay.0;
     let request = capped(delay, requests);
-    let job = job::reached(own.others, request, from, periods, jitters, invs, asks, t);
+    let job = job::reached(own.others, request, from, periods, invs, asks, t);
     if request <= job {
         Applied {
             time: exec + request,

@@ -30,12 +30,11 @@ fn per_task(file: &[u8], core: &mut [u8; 32], latest: &mut [u64; 32])
     }
 }
 
-// T, J, C and H of the tasks, in an order of their places.
+// T, C and H of the tasks, in an order of their places.
 fn columns(
     file: &[u8],
     order: &[usize; 33],
-    periods: &mut [u64; 33],
-    jitters: &mut [u64; 33],
+    spans: &mut [u64; 33],
     costs: &mut [u64; 33],
     asks: &mut [u64; 33],
 )
@@ -43,16 +42,15 @@ fn columns(
     requires file_value { decode file.now ≡ t }
     requires file_value_2 { is_accepted (check_file file.now) ≡ true }
     requires places_below { PlacesBelow t.tasks order.now }
-    requires periods_len { (length periods.old ≡ 33) × (length jitters.old ≡ 33) × (length costs.old ≡ 33) × (length asks.old ≡ 33) }
-    ensures { Columns t.task t.tasks order.now periods.new jitters.new costs.new asks.new }
+    requires spans_len { (length spans.old ≡ 33) × (length costs.old ≡ 33) × (length asks.old ≡ 33) }
+    ensures { Columns t.task t.tasks order.now spans.new costs.new asks.new }
 {
     let n = places::size(file[2]);
     let mut k: usize = 0;
     while k < n {
         let at = order[k];
         let task = fields::task_at(file, at);
-        periods[k] = task.period.0;
-        jitters[k] = task.jitter.0;
+        spans[k] = task.period.0;
         costs[k] = task.exec.0;
         asks[k] = task.requests as u64;
         k += 1;
@@ -65,8 +63,7 @@ fn laid(
     core: &mut [u8; 32],
     latest: &mut [u64; 32],
     from: &mut [usize; 9],
-    periods: &mut [u64; 33],
-    jitters: &mut [u64; 33],
+    spans: &mut [u64; 33],
     costs: &mut [u64; 33],
     asks: &mut [u64; 33],
 ) -> Priced
@@ -74,14 +71,14 @@ fn laid(
     requires file_value { decode file.now ≡ t }
     requires file_value_2 { is_accepted (check_file file.now) ≡ true }
     requires core_len { (length core.old ≡ 32) × (length latest.old ≡ 32) }
-    requires periods_len { (length periods.old ≡ 33) × (length jitters.old ≡ 33) × (length costs.old ≡ 33) × (length asks.old ≡ 33) }
-    ensures { Held t (lent_of result core.new latest.new from.new periods.new jitters.new costs.new asks.new) }
+    requires spans_len { (length spans.old ≡ 33) × (length costs.old ≡ 33) × (length asks.old ≡ 33) }
+    ensures { Held t (lent_of result core.new latest.new from.new spans.new costs.new asks.new) }
 {
     per_task(file, core, latest);
     let board = file_prices::priced(file);
     let mut order = [0usize; 33];
     *from = groups::grouped(board.tasks, board.cores, core, &mut order);
-    columns(file, &order, periods, jitters, costs, asks);
+    columns(file, &order, spans, costs, asks);
     board
 }
 
@@ -93,8 +90,7 @@ pub fn judge_accepted(file: &[u8], starts: [u64; 32]) -> AllJudged
     let mut core = [0u8; 32];
     let mut latest = [0u64; 32];
     let mut from = [0usize; 9];
-    let mut periods = [0u64; 33];
-    let mut jitters = [0u64; 33];
+    let mut spans = [0u64; 33];
     let mut costs = [0u64; 33];
     let mut asks = [0u64; 33];
     let board = laid(
@@ -102,12 +98,9 @@ pub fn judge_accepted(file: &[u8], starts: [u64; 32]) -> AllJudged
         &mut core,
         &mut latest,
         &mut from,
-        &mut periods,
-        &mut jitters,
+        &mut spans,
         &mut costs,
         &mut asks,
     );
-    rounds::judge_lent(
-        board, &core, &latest, &starts, &from, &periods, &jitters, &costs, &asks,
-    )
+    rounds::judge_lent(board, &core, &latest, &starts, &from, &spans, &costs, &asks)
 }

@@ -14,7 +14,7 @@ fn show(word: usize, file: &[u8]) -> u8 {
 
 // The file that a word names; word 0 is standard input.
 fn ask(word: usize) -> u8 {
-    let mut file = [0u8; 9992];
+    let mut file = [0u8; 7952];
     match console::load(b"whole: ", word, &mut file) {
         Got::Failed => 3,
         Got::Bytes(n) => show(word, input::front(&file, n)),

@@ -11,11 +11,16 @@ use borrow.Author.Tests.{lt-ltb, le-ltb}
 use Rattle.rules.specs.declared.Table.{Table}
 use Rattle.rules.specs.Chain.{accepted, refused, is_accepted}
 use Rattle.rules.specs.Refusals.{check_table}
-use Rattle.rules.specs.File.{trailer, body, encode}
+use Rattle.rules.specs.File.{sets_at, recordsAt, recordSize, file_length, trailer, body, encode}
 use Rattle.rules.specs.Operations.{check_write, writing, out_after}
 use Rattle.writer.specs.Answers.{wrote_nothing, Wrote}
 use Rattle.laws.proofs.Bytes.{bytes-length}
 use Rattle.laws.proofs.Runs.{sets-after, sets-front}
+
+-- 46 + 2·8 + 29·32 is 990
+pub file_small : (form cores tasks : ℕ) → cores ≤ 8 → tasks ≤ 32 → file_length form cores tasks ≤ 990
+unfolding file_length recordsAt recordSize sets_at
+file_small form cores tasks c t = omega arith
 
 pub encode-length : (t : Table) → length (encode t) ≡ length (body t) + 12
 unfolding encode trailer
@@ -31,7 +36,7 @@ module _ (t : Table) (out : List ℕ) where
     unfolding writing out_after check_write
     no_room h = record { answered = rw (passed, lt-ltb _ _ h); stored = rw (passed, lt-ltb _ _ h); small = omega arith }
 
-    pub room : length (encode t) ≤ length out → length (encode t) ≤ 1246
+    pub room : length (encode t) ≤ length out → length (encode t) ≤ 990
         → Wrote t out (record { refusal = accepted; length = length (encode t) }) (encode t ++ drop (length (encode t)) out)
     unfolding writing out_after check_write
     room h few = record { answered = rw (passed, le-ltb _ _ h); stored = rw (passed, le-ltb _ _ h); small = few }

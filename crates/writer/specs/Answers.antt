@@ -14,4 +14,4 @@ pub record Wrote (t : Table) (before : List ℕ) (answer : Written) (after : Lis
   pub answered : answer ≡ writing t before
   pub stored : after ≡ out_after t before
   -- no file is longer (RULES 7.5)
-  pub small : answer.length ≤ 1246
+  pub small : answer.length ≤ 990

@@ -4,7 +4,7 @@ use mathlib.Core.Path.{◌≡◌, sym, ap, ◌∙◌}
 use Rattle.rules.specs.Kinds.{says_salvaged}
 use Rattle.rules.specs.File.{form_in}
 use Rattle.file.proofs.WasRead.{not_accepted, was-accepted, table_of}
-use Rattle.admit_file.proofs.Links.{nothing_read, same_fourth, salvaged-read, table-read}
+use Rattle.admit_file.proofs.Links.{nothing_read, same-fourth, salvaged-read, table-read}
 use Rattle.admit_file.proofs.read.Statement.{statement}
 use Rattle.admit_file.proofs.read.Tie as tie
 
@@ -15,7 +15,7 @@ returns c = let e = c.before.before.read.ensures in e ∙ nothing_read _ (not_ac
 asked : (c : tie.After-says-salvaged) → c.says-salvaged.result ≡ says_salvaged (form_in c.before.before.before.before.before.before.args.file.now)
 asked c =
     let e = c.before.before in
-    c.says-salvaged.ensures ∙ ap says_salvaged (same_fourth _ (table_of _ e.before.before.read.ensures e.if1.false))
+    c.says-salvaged.ensures ∙ ap says_salvaged (same-fourth _ (table_of _ e.before.before.read.ensures e.if1.false))
 
 returns-2 : tie.Need-returns-2
 returns-2 c =

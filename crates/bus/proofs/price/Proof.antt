@@ -1,4 +1,5 @@
 -- A turn for the request of another core, nothing for one of its own. Assumes nothing.
+use mathlib.Core.Path.{sym, ap, ◌∙◌}
 use borrow.Author.Tests.{eq-eqb, ne_eqb}
 use Rattle.bus.proofs.price.Statement.{statement}
 use Rattle.bus.proofs.price.Tie as tie

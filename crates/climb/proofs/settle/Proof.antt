@@ -10,10 +10,10 @@ use Rattle.climb.proofs.settle.Statement.{statement}
 use Rattle.climb.proofs.settle.Tie as tie
 
 abbrev invariant-loop : tie.invariant-loop
-invariant-loop own from periods jitters invs execs asks given t₀ n₀ t n = Going (terms_of own from periods jitters execs asks) (max (lowest_of own) given) t n
+invariant-loop own from periods invs execs asks given t₀ n₀ t n = Going (terms_of own from periods execs asks) (max (lowest_of own) given) t n
 
 abbrev decreases-loop : tie.decreases-loop
-decreases-loop own from periods jitters invs execs asks given t₀ n₀ t n = own.latest - t
+decreases-loop own from periods invs execs asks given t₀ n₀ t n = own.latest - t
 
 returns-2 : tie.Need-returns-2 invariant-loop decreases-loop
 returns-2 c = c.ended.ensures ∙ lowered _ _ c.before.before.before.before.before.before.before.before.before.requires.1 refl c.before.before.before.before.before.before.loop.invariant c.before.before.before.before.before.apply.ensures (search rules)
@@ -32,7 +32,7 @@ settle-spec =
     tie.close
     (tie.spec invariant-loop decreases-loop (λ c κs. search rules) (λ c κs. search rules)
     (λ c. rw (c.most.ensures, c.before.lowest.ensures) (going_first _ _ c.before.before.requires.1 refl))
-    (λ c κs. let p = c.before.before.before.requires in ((record { low = omega (arith, c.loop.invariant.low, p.1.lowest-low); high = omega (arith, c.loop.invariant.fits, p.1.latest-high) }, p.0), p.1.fair))
+    (λ c κs. let p = c.before.before.before.requires in ((omega (arith, c.loop.invariant.fits, p.1.latest-high), p.0), p.1.fair))
     (λ c. last-holds _ _ c.before.before.before.before.before.before.requires.1 refl c.before.before.before.loop.invariant c.before.before.apply.ensures (search rules))
     (λ c κs. search rules) returns-2 (λ c κs. search rules) returns-3
     (λ c. omega (arith, c.before.before.before.before.before.before.before.before.before.before.before.requires.1.latest-high))

@@ -13,7 +13,7 @@ use Rattle.columns.proofs.judge_at.Tie as tie
 -- what is lent, and the task in it
 module _ (s : tie.Start) where
   abbrev lent : Lent
-  lent = lent_of s.args.t1 s.args.core.now s.args.latest.now s.args.from.now s.args.periods.now s.args.jitters.now s.args.costs.now s.args.asks.now
+  lent = lent_of s.args.t1 s.args.core.now s.args.latest.now s.args.from.now s.args.spans.now s.args.costs.now s.args.asks.now
 
   abbrev i : ℕ
   i = s.args.i

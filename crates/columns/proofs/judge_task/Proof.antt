@@ -13,20 +13,20 @@ here s = omega (arith, s.requires.1.0.low, s.requires.1.0.high)
 
 judge-at-requires : tie.Need-judge-at-requires
 judge-at-requires c κs =
-    let filled = c.before.before.before.before.before.before.before.laid.ensures in
-    let s = c.before.before.before.before.before.before.before.before.before.before.before.before.before.before.before in
+    let filled = c.before.before.before.before.before.before.laid.ensures in
+    let s = c.before.before.before.before.before.before.before.before.before.before.before.before.before in
     (of_judgeable s.args.table s.requires.0 filled, (omega (arith, here s, tasks_are s.args.table s.requires.0 filled), rw (filled.per_task.latest_is (s.args.k - 1) (here s)) s.requires.1.1))
 
 returns : tie.Need-returns
 returns c =
-    let s = c.before.before.before.before.before.before.before.before.before.before.before.before.before.before.before.before in
+    let s = c.before.before.before.before.before.before.before.before.before.before.before.before.before.before in
     let a = s.args in
     let back : a.k - 1 + 1 ≡ a.k = omega (arith, s.requires.1.0.low) in
     c.judge-at.ensures
-    ∙ of_climbed a.table s.requires.0 c.before.before.before.before.before.before.before.before.laid.ensures (a.k - 1) (here s) a.start
+    ∙ of_climbed a.table s.requires.0 c.before.before.before.before.before.before.before.laid.ensures (a.k - 1) (here s) a.start
     ∙ ap (λ (k : ℕ). climbed_for a.table k a.start) back
 
 pub judge-task-spec : {M : Type 1} → statement M
 judge-task-spec =
     tie.close
-    (tie.spec (λ c κs. ((c.before.before.before.before.before.before.before.requires.0, refl, refl), (refl, refl, refl, refl))) (λ c. search rules) judge-at-requires returns)
+    (tie.spec (λ c κs. ((c.before.before.before.before.before.before.requires.0, refl, refl), (refl, refl, refl))) (λ c. search rules) judge-at-requires returns)

@@ -4,7 +4,7 @@ use Prim.Native.Nat.{◌+◌}
 use native.Mathlib.Omega.{arith}
 use borrow.Author.Rules.{rules}
 use lib.ListN.{length}
-use Rattle.facts.proofs.Places.{sets-limit, after-sets}
+use Rattle.places.proofs.Places.{sets-limit, after-sets}
 use Rattle.encode.proofs.Stores.{body_stores}
 use Rattle.encode.proofs.put_body.Statement.{statement}
 use Rattle.encode.proofs.put_body.Tie as tie

@@ -2,12 +2,17 @@
 use Prim.Native.Nat.{◌+◌}
 use native.Mathlib.Omega.{arith}
 use borrow.Author.Rules.{rules}
-use Rattle.fields.proofs.Steps.{part_record, header-before}
+use Rattle.rules.specs.File.{form_in, cores_in}
+use Rattle.places.proofs.Places.{sets-limit, after-sets}
+use Rattle.fields.proofs.Steps.{part_record}
 use Rattle.fields.proofs.record_in.Statement.{statement}
 use Rattle.fields.proofs.record_in.Tie as tie
 
 read-form : tie.Need-shared-slice-read-form
-read-form c = let s = c.before.before in omega (arith, header-before s.args.file.now (s.args.i + 1) s.requires.1)
+read-form c =
+    let a = c.before.before.args in
+    let s = a.file.now in
+    omega (arith, after-sets (form_in s) (cores_in s) (a.i + 1), sets-limit (form_in s))
 
 pub record-in-spec : {M : Type 1} → statement M
 record-in-spec =

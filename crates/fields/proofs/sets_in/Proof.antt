@@ -3,7 +3,7 @@ use native.Mathlib.Omega.{arith}
 use borrow.Author.Rules.{rules}
 use Rattle.rules.specs.File.{sets_at, form_in, cores_in}
 use Rattle.laws.proofs.Runs.{sets-filled}
-use Rattle.facts.proofs.Places.{records-are}
+use Rattle.places.proofs.Places.{records-are}
 use Rattle.fields.specs.Places.{figures_in}
 use Rattle.fields.proofs.Steps.{figures-length, header-there}
 use Rattle.fields.proofs.sets_in.Statement.{statement}

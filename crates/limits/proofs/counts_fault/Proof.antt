@@ -39,14 +39,14 @@ returns-3 c =
 
 returns-4 : tie.Need-returns-4
 unfolding counts_fault fourth_allowed
-returns-4 c = let two = c.before.before.before in simp (cores-in two.before.before, partitions-in two, tasks-in c.before, le-ltb _ 8 c.if4.true)
+returns-4 c = let two = c.before.before.before in simp (cores-in two.before.before, partitions-in two, tasks-in c.before, le-ltb _ 4 c.if4.true)
 
 returns-5 : tie.Need-returns-5
 unfolding counts_fault fourth_allowed
 returns-5 c =
     let two = c.before.before.before in
     let one = two.before.before in
-    simp (cores-in one, partitions-in two, tasks-in c.before, lt-ltb one.before.before.args.fourth 8 (omega (arith, c.if4.false)))
+    simp (cores-in one, partitions-in two, tasks-in c.before, lt-ltb one.before.before.args.fourth 4 (omega (arith, c.if4.false)))
 
 pub counts-fault-spec : {M : Type 1} → statement M
 counts-fault-spec =

@@ -1,6 +1,6 @@
 -- Reading what `write` stored returns the table. Assumes nothing.
 use borrow.Author.Rules.{rules}
-use mathlib.Core.Path.{ap, sym}
+use mathlib.Core.Path.{◌≡◌, ap, sym}
 use native.Mathlib.Omega.{arith}
 use Prim.Native.Nat.{◌≤◌}
 use lib.ListN.{length, replicate}
@@ -18,7 +18,7 @@ shape c = record { figures = search (rules, unmapped); sets = search (rules, unm
 fits : (c : tie.After-write) → c.write.result.length ≤ length c.write.new.1.0
 fits c =
     let answered = ap (λ (w : Written). w.length) c.write.ensures.answered in
-    omega (arith, c.write.auto, answered, return_in_place.fits c.before.before.args.t (replicate 1246 0))
+    omega (arith, c.write.auto, answered, return_in_place.fits c.before.before.args.t (replicate 990 0))
 
 returns : tie.Need-returns
 returns c =
@@ -26,7 +26,7 @@ returns c =
     let start = written.before.before in
     let wrote = written.write.ensures in
     let is = rw (wrote.answered, wrote.stored) at c.read.ensures in
-    (is, λ table. rw is (return_in_place.read_written start.args.t (replicate 1246 0) (shape start) table (omega (arith, return_in_place.room start.args.t (shape start) table))))
+    (is, λ table. rw is (return_in_place.read_written start.args.t (replicate 990 0) (shape start) table (omega (arith, return_in_place.room start.args.t (shape start) table))))
 
 pub written-then-read-spec : {M : Type 1} → statement M
 written-then-read-spec =

@@ -1,6 +1,6 @@
 -- The length of a file by its counts. Assumes nothing.
 use borrow.Author.Rules.{rules}
-use Rattle.facts.proofs.Places.{length_is}
+use Rattle.places.proofs.Places.{length_is}
 use Rattle.places.proofs.file_length.Statement.{statement}
 use Rattle.places.proofs.file_length.Tie as tie
 

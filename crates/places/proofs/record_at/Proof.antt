@@ -3,7 +3,7 @@ use Prim.Native.Nat.{◌*◌, ◌≤◌}
 use native.Mathlib.Nat.{mul-le-mul}
 use native.Mathlib.Omega.{arith}
 use borrow.Author.Rules.{rules}
-use Rattle.facts.proofs.Places.{records-are, record-place}
+use Rattle.places.proofs.Places.{records-are, record-place}
 use Rattle.places.proofs.record_at.Statement.{statement}
 use Rattle.places.proofs.record_at.Tie as tie
 

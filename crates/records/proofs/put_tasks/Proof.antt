@@ -10,8 +10,8 @@ use Rattle.rules.specs.Tasks.{no_task}
 use Rattle.rules.specs.File.{recordsAt, recordSize, recordBytes}
 use Rattle.laws.specs.Idioms.{joined}
 use Rattle.laws.proofs.Runs.{unmapped, store_next}
-use Rattle.facts.proofs.Places.{record-place, record-within}
-use Rattle.facts.proofs.Sizes.{record_is, record-length}
+use Rattle.places.proofs.Places.{record-limit, record-place, record-within}
+use Rattle.records.proofs.Record.{record-length}
 use Rattle.records.proofs.put_tasks.Statement.{statement}
 use Rattle.records.proofs.put_tasks.Tie as tie
 
@@ -29,7 +29,7 @@ put-task-requires : tie.Need-put-task-requires invariant-loop decreases-loop
 put-task-requires c κs =
     let l = c.before.before.before.before in
     let t = l.before.before.before.args.t2 in
-    omega (arith, c.record-at.ensures.0, record_is t.fourth, record-within t.fourth t.cores l.loop.done t.tasks (omega arith))
+    omega (arith, c.record-at.ensures.0, record-limit t.fourth, record-within t.fourth t.cores l.loop.done t.tasks (omega arith))
 
 loop-again : tie.Need-loop-preserved invariant-loop decreases-loop
 loop-again c =

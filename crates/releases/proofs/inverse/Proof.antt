@@ -7,4 +7,4 @@ pub inverse-spec : {M : Type 1} → statement M
 inverse-spec =
     tie.close
     (tie.spec (λ c. search rules) (λ c. search rules)
-    (λ c. omega (arith, (div-lt_iff_lt-mul {k = c.before.args.period} {x = 144115188075855872} {y = 1441151881} (omega arith)).1 (omega arith))))
+    (λ c. omega (arith, (div-lt_iff_lt-mul {k = c.before.args.period} {x = 288230376151711744} {y = 2882303763} (omega arith)).1 (omega arith))))

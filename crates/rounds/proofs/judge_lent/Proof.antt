@@ -17,16 +17,16 @@ use Rattle.rounds.proofs.judge_lent.Statement.{statement}
 use Rattle.rounds.proofs.judge_lent.Tie as tie
 
 abbrev invariant-loop : tie.invariant-loop
-invariant-loop core latest starts from periods jitters costs asks board answers₀ refusal₀ end₀ invs doubled next₀ i₀ answers refusal end next i =
-    Judging (lent_of board core latest from periods jitters costs asks) starts i end refusal answers × Nexts core from next i
+invariant-loop core latest starts from spans costs asks board answers₀ refusal₀ end₀ invs doubled next₀ i₀ answers refusal end next i =
+    Judging (lent_of board core latest from spans costs asks) starts i end refusal answers × Nexts core from next i
 
 abbrev decreases-loop : tie.decreases-loop
-decreases-loop core latest starts from periods jitters costs asks board answers₀ refusal₀ end₀ invs doubled next₀ i₀ answers refusal end next i = end - i
+decreases-loop core latest starts from spans costs asks board answers₀ refusal₀ end₀ invs doubled next₀ i₀ answers refusal end next i = end - i
 
 -- what is lent
 module _ (s : tie.Start invariant-loop decreases-loop) where
   abbrev lent : Lent
-  lent = lent_of s.args.t1 s.args.core.now s.args.latest.now s.args.from.now s.args.periods.now s.args.jitters.now s.args.costs.now s.args.asks.now
+  lent = lent_of s.args.t1 s.args.core.now s.args.latest.now s.args.from.now s.args.spans.now s.args.costs.now s.args.asks.now
 
 loop-holds : tie.Need-loop-init invariant-loop decreases-loop
 loop-holds c =

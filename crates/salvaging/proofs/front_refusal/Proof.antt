@@ -9,7 +9,7 @@ use Rattle.rules.specs.Chain.{is_accepted}
 use Rattle.rules.specs.File.{recordsAt, cores_in, form_in}
 use Rattle.rules.specs.Operations.{check_file}
 use Rattle.facts.proofs.Chain.{passes, refuses}
-use Rattle.facts.proofs.Places.{record-place}
+use Rattle.places.proofs.Places.{record-place}
 use Rattle.salvaging.proofs.Links.{front-accepted, early, few_bytes, late, front-early, front-board}
 use Rattle.salvaging.proofs.front_refusal.Statement.{statement}
 use Rattle.salvaging.proofs.front_refusal.Tie as tie

@@ -1,17 +1,13 @@
 -- `of_file` meets its contract: what the check of the bytes and the judgement give decides. Assumes nothing.
 use mathlib.Core.Path.{◌≡◌, sym, ◌∙◌}
-use mathlib.Core.Bool.{true, cond}
-use lib.Dec.{eqb}
+use mathlib.Core.Bool.{true}
 use native.Mathlib.Omega.{arith}
 use borrow.Author.Rules.{rules}
-use borrow.Author.Tests.{eq-eqb, ne_eqb}
 use Rattle.rules.specs.Chain.{is_accepted}
 use Rattle.rules.specs.Operations.{check_to_judge}
 use Rattle.facts.proofs.Chain.{passes, refuses}
 use Rattle.facts.proofs.ToJudge.{judged_file}
 use Rattle.file.proofs.Reading.{file_sized, file_counts}
-use Rattle.status.specs.Status.{file_status}
-use Rattle.status.proofs.Missing.{none_first}
 use Rattle.status.proofs.Decided.{status_refused, status_accepted}
 use Rattle.status.proofs.of_file.Statement.{statement}
 use Rattle.status.proofs.of_file.Tie as tie
@@ -22,21 +18,13 @@ accepts c = passes c.before.before.check.ensures c.if1.false
 returns : tie.Need-returns
 returns c = sym (status_refused _ (refuses c.before.before.check.ensures c.if1.true))
 
--- the answers decide, by the first task of them that misses
-decides : (c : tie.After-first-miss) → file_status c.before.before.before.before.before.before.before.before.args.file.now ≡ cond (eqb c.first-miss.result 0) 0 1
-decides c =
-    let judged = c.before.before.before in
-    status_accepted _ (accepts judged.before) ∙ rw (none_first _ _, c.first-miss.ensures, judged.judge-accepted.ensures)
-
 returns-2 : tie.Need-returns-2
-returns-2 c = sym (decides c.before ∙ rw (eq-eqb _ _ c.if2.true))
-
-returns-3 : tie.Need-returns-3
-returns-3 c = sym (decides c.before ∙ rw (ne_eqb _ _ c.if2.false))
+returns-2 c =
+    let judged = c.before.before.before in
+    rw judged.judge-accepted.ensures at c.of-answers.ensures ∙ sym (status_accepted _ (accepts judged.before))
 
 pub of-file-spec : {M : Type 1} → statement M
 of-file-spec =
     tie.close
     (tie.spec (λ c κs. search rules) returns (λ c κs. accepts c) (λ c. omega (arith, (file_sized _ (judged_file _ (accepts c.before.before.before))).long))
-    (λ c. omega (arith, (file_counts _ (judged_file _ (accepts c.before.before.before))).1))
-    (λ c κs. (file_counts _ (judged_file _ (accepts c.before.before.before))).1) returns-2 returns-3)
+    (λ c κs. (file_counts _ (judged_file _ (accepts c.before.before.before))).1) returns-2)

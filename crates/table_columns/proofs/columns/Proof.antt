@@ -1,4 +1,4 @@
--- T, J, C and H of the tasks, in an order of their places. Assumes nothing.
+-- T, C and H of the tasks, in an order of their places. Assumes nothing.
 use borrow.Author.Rules.{rules}
 use mathlib.Core.Path.{◌≡◌, refl}
 use Prim.Native.Nat.{◌≤◌, ◌<◌, ◌-◌}
@@ -10,17 +10,17 @@ use Rattle.table_columns.proofs.columns.Statement.{statement}
 use Rattle.table_columns.proofs.columns.Tie as tie
 
 abbrev invariant-loop : tie.invariant-loop
-invariant-loop order periods₀ jitters₀ costs₀ asks₀ table n k₀ periods jitters costs asks k =
-    ((k ≤ n) × (length periods ≡ 33) × (length jitters ≡ 33) × (length costs ≡ 33) × (length asks ≡ 33)) × Columns table.task k order periods jitters costs asks
+invariant-loop order spans₀ costs₀ asks₀ table n k₀ spans costs asks k =
+    ((k ≤ n) × (length spans ≡ 33) × (length costs ≡ 33) × (length asks ≡ 33)) × Columns table.task k order spans costs asks
 
 abbrev decreases-loop : tie.decreases-loop
-decreases-loop order periods₀ jitters₀ costs₀ asks₀ table n k₀ periods jitters costs asks k = n - k
+decreases-loop order spans₀ costs₀ asks₀ table n k₀ spans costs asks k = n - k
 
 loop-again : tie.Need-loop-preserved invariant-loop decreases-loop
 loop-again c =
     let v = c.before.before.before.before.loop.invariant in (
-      (search rules, rw length-set v.0.1, rw length-set v.0.2, rw length-set v.0.3, rw length-set v.0.4),
-      columns-next (omega (arith, v.0.1)) (omega (arith, v.0.2)) (omega (arith, v.0.3)) (omega (arith, v.0.4)) v.1 refl,
+      (search rules, rw length-set v.0.1, rw length-set v.0.2, rw length-set v.0.3),
+      columns-next (omega (arith, v.0.1)) (omega (arith, v.0.2)) (omega (arith, v.0.3)) v.1 refl,
     )
 
 returns : tie.Need-returns invariant-loop decreases-loop
@@ -33,6 +33,6 @@ there c = let s = c.before.before.before in omega (arith, s.requires.0.1.each c.
 pub columns_spec : {M : Type 1} → statement M
 columns_spec =
     tie.close
-    (tie.spec invariant-loop decreases-loop (λ c. search rules) (λ c. ((search rules, search rules, search rules, search rules, search rules), columns-none)) (λ c. search rules)
+    (tie.spec invariant-loop decreases-loop (λ c. search rules) (λ c. ((search rules, search rules, search rules, search rules), columns-none)) (λ c. search rules)
     (λ c. search rules) (λ c. omega (arith, there c)) (λ c. there c) (λ c. search rules) (λ c. search rules) (λ c. search rules) (λ c. search rules)
-    (λ c. search rules) (λ c. search rules) (λ c. search rules) (λ c. search rules) (λ c. search rules) (λ c. search rules) (λ c. search rules) loop-again returns)
+    (λ c. search rules) (λ c. search rules) (λ c. search rules) (λ c. search rules) (λ c. search rules) loop-again returns)

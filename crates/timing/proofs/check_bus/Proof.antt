@@ -2,6 +2,7 @@
 use Prim.Native.Nat.{◌-◌}
 use mathlib.Core.Path.{sym, ◌∙◌}
 use borrow.Author.Rules.{rules}
+use native.Mathlib.Omega.{arith}
 use Rattle.rules.specs.Refusals.{bus_fault, check_bus}
 use Rattle.facts.proofs.First.{Left, left-all, left-hit, left-next, left-none}
 use Rattle.timing.proofs.check_bus.Statement.{statement}

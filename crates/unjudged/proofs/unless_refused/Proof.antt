@@ -1,4 +1,5 @@
 -- A count where nothing is refused. Assumes nothing.
+use borrow.Author.Rules.{rules}
 use borrow.Author.Tests.{eq-eqb, ne_eqb}
 use Rattle.unjudged.proofs.unless_refused.Statement.{statement}
 use Rattle.unjudged.proofs.unless_refused.Tie as tie

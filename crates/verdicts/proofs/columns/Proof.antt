@@ -1,4 +1,4 @@
--- T, J, C and H of the tasks, in an order of their places. Assumes nothing.
+-- T, C and H of the tasks, in an order of their places. Assumes nothing.
 use borrow.Author.Rules.{rules}
 use mathlib.Core.Path.{◌≡◌}
 use Prim.Native.Nat.{◌≤◌, ◌<◌, ◌-◌}
@@ -13,11 +13,11 @@ use Rattle.verdicts.proofs.columns.Statement.{statement}
 use Rattle.verdicts.proofs.columns.Tie as tie
 
 abbrev invariant-loop : tie.invariant-loop
-invariant-loop file order periods₀ jitters₀ costs₀ asks₀ n k₀ periods jitters costs asks k =
-    ((k ≤ n) × (length periods ≡ 33) × (length jitters ≡ 33) × (length costs ≡ 33) × (length asks ≡ 33)) × Columns (decode file).task k order periods jitters costs asks
+invariant-loop file order spans₀ costs₀ asks₀ n k₀ spans costs asks k =
+    ((k ≤ n) × (length spans ≡ 33) × (length costs ≡ 33) × (length asks ≡ 33)) × Columns (decode file).task k order spans costs asks
 
 abbrev decreases-loop : tie.decreases-loop
-decreases-loop file order periods₀ jitters₀ costs₀ asks₀ n k₀ periods jitters costs asks k = n - k
+decreases-loop file order spans₀ costs₀ asks₀ n k₀ spans costs asks k = n - k
 
 few : (c : tie.In-loop invariant-loop decreases-loop) → c.before.loop.k < 32
 few c =
@@ -34,8 +34,8 @@ loop-again : tie.Need-loop-preserved invariant-loop decreases-loop
 loop-again c =
     let v = c.before.before.before.before.loop.invariant in
     let f = few c.before.before.before in (
-      (search rules, rw length-set v.0.1, rw length-set v.0.2, rw length-set v.0.3, rw length-set v.0.4),
-      columns-next (omega (arith, v.0.1, f)) (omega (arith, v.0.2, f)) (omega (arith, v.0.3, f)) (omega (arith, v.0.4, f)) v.1 (task_in_place _ _ c.before.task_at.ensures),
+      (search rules, rw length-set v.0.1, rw length-set v.0.2, rw length-set v.0.3),
+      columns-next (omega (arith, v.0.1, f)) (omega (arith, v.0.2, f)) (omega (arith, v.0.3, f)) v.1 (task_in_place _ _ c.before.task_at.ensures),
     )
 
 returns : tie.Need-returns invariant-loop decreases-loop
@@ -48,8 +48,8 @@ pub columns_spec : {M : Type 1} → statement M
 columns_spec =
     tie.close
     (tie.spec invariant-loop decreases-loop (λ c. omega (arith, (file_sized _ c.before.before.requires.0).long)) (λ c κs. search rules)
-    (λ c. ((search rules, search rules, search rules, search rules, search rules), columns-none)) (λ c. omega (arith, few c)) (λ c. omega (arith, few c))
+    (λ c. ((search rules, search rules, search rules, search rules), columns-none)) (λ c. omega (arith, few c)) (λ c. omega (arith, few c))
     (λ c κs. (there c, file_sized _ c.before.before.before.before.before.before.requires.0)) (λ c. omega (arith, few c.before.before)) (λ c. omega (arith, few c.before.before))
-    (λ c. omega (arith, few c.before.before)) (λ c. omega (arith, few c.before.before)) (λ c. omega (arith, few c.before.before)) (λ c. omega (arith, few c.before.before)) (λ c. search rules)
+    (λ c. omega (arith, few c.before.before)) (λ c. omega (arith, few c.before.before)) (λ c. search rules)
     (λ c. omega (arith, few c.before.before.before)) (λ c. omega (arith, few c.before.before.before))
     (λ c. omega (arith, few c.before.before.before)) (λ c. search rules) loop-again returns)

@@ -14,17 +14,17 @@ grouped-requires c κs =
 
 columns-requires : tie.Need-columns-requires
 columns-requires c κs =
-    let start = c.before.before.before.before.before.before.before.before.before.before.before.before.before in
-    (start.requires.0, (rw c.before.before.before.before.before.before.before.before.priced.ensures at c.before.before.before.before.before.grouped.ensures.low, start.requires.1.1))
+    let start = c.before.before.before.before.before.before.before.before.before.before.before.before in
+    (start.requires.0, (rw c.before.before.before.before.before.before.before.priced.ensures at c.before.before.before.before.grouped.ensures.low, start.requires.1.1))
 
 returns : tie.Need-returns
 returns c =
-    let board = c.before.before.before.before.before.before.before.before.before.priced.ensures in
+    let board = c.before.before.before.before.before.before.before.before.priced.ensures in
     record {
       board_is = board;
-      per_task = c.before.before.before.before.before.before.before.before.before.before.per_task.ensures;
-      order = c.before.before.before.before.before.before.grouped.new.1.1.1.0;
-      ordered = rw board at c.before.before.before.before.before.before.grouped.ensures;
+      per_task = c.before.before.before.before.before.before.before.before.before.per_task.ensures;
+      order = c.before.before.before.before.before.grouped.new.1.1.1.0;
+      ordered = rw board at c.before.before.before.before.before.grouped.ensures;
       columns = c.columns.ensures;
     }
 

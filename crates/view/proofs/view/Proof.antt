@@ -8,7 +8,7 @@ use Prim.Native.Nat.{◌+◌, ◌-◌}
 use Rattle.rules.specs.Chain.{is_accepted}
 use Rattle.rules.specs.File.{form_in, cores_in, tasks_in}
 use Rattle.rules.specs.Operations.{check_view}
-use Rattle.facts.proofs.Places.{record-within, length_is}
+use Rattle.places.proofs.Places.{record-within, length_is}
 use Rattle.view.proofs.Viewing.{view-nothing, view_record, viewed_sized, viewed_task}
 use Rattle.view.proofs.view.Statement.{statement}
 use Rattle.view.proofs.view.Tie as tie

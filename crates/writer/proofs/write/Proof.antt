@@ -11,9 +11,9 @@ use Rattle.rules.specs.Refusals.{check_table}
 use Rattle.rules.specs.File.{body, encode}
 use Rattle.facts.proofs.Accepted.{sound}
 use Rattle.laws.proofs.Runs.{unmapped}
-use Rattle.facts.proofs.Places.{length_is, length-limit}
+use Rattle.places.proofs.Places.{length_is}
 use Rattle.encode.proofs.Stores.{body-length}
-use Rattle.writer.proofs.Writing.{encode-length, table-refused, no_room, room, file_stores}
+use Rattle.writer.proofs.Writing.{file_small, encode-length, table-refused, no_room, room, file_stores}
 use Rattle.writer.proofs.write.Statement.{statement}
 use Rattle.writer.proofs.write.Tie as tie
 
@@ -62,7 +62,7 @@ returns-3 c =
     let e : f.file_length_lem.result - 12 ≡ length (body a.t) = omega (arith, lengths f) in
     let h : length (encode a.t) ≤ length a.out.now = omega (arith, lengths f, p.before.before.if2.false) in
     let fits = sound a.t (passed f.before) in
-    let few : length (encode a.t) ≤ 1246 = omega (arith, lengths f, f.file_length_lem.ensures.0, length-limit a.t.fourth a.t.cores a.t.tasks, fits.cores-in.high, fits.tasks-in.high) in
+    let few : length (encode a.t) ≤ 990 = omega (arith, lengths f, f.file_length_lem.ensures.0, file_small a.t.fourth a.t.cores a.t.tasks fits.cores-in.high fits.tasks-in.high) in
     rw (c.refused2.ensures, r.put-trailer.ensures, e, p.put-body.ensures, (lengths f).1, file_stores a.t a.out.now h) (room _ _ (passed f.before) h few)
 
 pub write_spec : {M : Type 1} → statement M

@@ -1,5 +1,6 @@
 -- `put_part` is safe and ends. Assumes nothing.
 use Prim.Native.Nat.{◌≤◌, ◌-◌}
+use mathlib.Core.Path.{◌≡◌}
 use lib.ListN.{length}
 use borrow.Author.Rules.{rules}
 use Rattle.conform.proofs.lines.put_part.Statement.{statement}
