@@ -1,4 +1,6 @@
 // What a judgement of a table that is passed directly meets before any round.
+#![tactic(auto)]
+
 ghost use Rattle.std.specs.Prelude.{◌≡◌};
 ghost use Rattle.rules.specs.Refusals.{check_judged, check_start};
 

@@ -1,4 +1,6 @@
 // What a judgement of a table file meets before any round: what reading refuses, then 18.
+#![tactic(auto)]
+
 ghost use Rattle.std.specs.Prelude.{◌≡◌};
 ghost use Rattle.rules.specs.Operations.{check_to_judge, read_to_judge};
 

@@ -1,4 +1,6 @@
 // The answers of a newer table after an older one, where both may be judged; and those put into three outputs that are lent.
+#![tactic(auto)]
+
 ghost use Rattle.std.specs.Prelude.{◌≡◌, true, take};
 ghost use Rattle.laws.specs.Idioms.{entry};
 ghost use Rattle.rules.specs.Chain.{is_accepted};

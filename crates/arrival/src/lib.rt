@@ -1,4 +1,5 @@
 // Did a file come whole? Refusals 1 to 4.
+#![tactic(auto)]
 
 ghost use Rattle.std.specs.Prelude.{◌≡◌, ◌≤◌, length};
 ghost use Rattle.rules.specs.File.{check_whole, check_trailer};

@@ -1,4 +1,6 @@
 // Small steps that many crates take: a refusal made, the kind of a table asked for and its mark, a task's latest response, a number held to its limits, the larger of two numbers.
+#![tactic(auto)]
+
 ghost use Rattle.std.specs.Prelude.{◌≡◌, not, max, ◌<◌};
 ghost use Rattle.laws.specs.Idioms.{within};
 ghost use Rattle.rules.specs.Chain.{refused};

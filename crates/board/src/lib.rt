@@ -1,4 +1,6 @@
 // What a board's cores cost each other, whatever its kind: the one place that chooses.
+#![tactic(auto)]
+
 ghost use Rattle.std.specs.Prelude.{◌≡◌, false, ◌≤◌};
 ghost use Rattle.rules.specs.declared.Table.{Table};
 ghost use Rattle.rules.specs.Kinds.{says_bus};

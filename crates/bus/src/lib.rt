@@ -1,4 +1,6 @@
 // What the cores of a bus table cost each other: RULES 4.8 and 4.9 core by core, as prices.
+#![tactic(auto)]
+
 ghost use Rattle.std.specs.Prelude.{◌≡◌, ◌≤◌};
 ghost use Rattle.rules.specs.declared.Table.{Table};
 ghost use Rattle.rules.specs.Units.{ps};

@@ -1,4 +1,6 @@
 // Lent bytes: the first of them, and one of them altered; little-endian numbers of 2, 4 and 8 bytes in them, and the bytes of such numbers stored.
+#![tactic(auto)]
+
 ghost use Rattle.std.specs.Prelude.{◌≡◌, ◌+◌, ◌≤◌, length, take, set};
 ghost use Rattle.std.proofs.lemmas.List.Edits.{sets};
 ghost use Rattle.laws.specs.Idioms.{number_in, bytes_of, part};

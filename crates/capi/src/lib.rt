@@ -1,4 +1,6 @@
 // The C interface: include/ryeobadum.h. A `&[u8]` is a pointer and then a length.
+#![tactic(auto)]
+
 ghost use Rattle.std.specs.Prelude.{◌≡◌, cond};
 ghost use Rattle.rules.specs.File.{check_whole};
 ghost use Rattle.rules.specs.Operations.{check_file, check_view};

@@ -1,5 +1,7 @@
 // carry OLDER NEWER: the newer table's listing, judged from the older one's bounds where that is sound. A line on standard error says what that
 // spared, or what stood against it.
+#![tactic(auto)]
+
 use bytes::front;
 use changes::Change;
 use console::{Got, note, note_number, part};

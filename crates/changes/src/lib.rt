@@ -1,4 +1,6 @@
 // A change between two tables that keeps the newer from being the older one worsened: of a figure, of a list, of a task.
+#![tactic(auto)]
+
 ghost use Rattle.std.specs.Prelude.{◌≡◌, length};
 ghost use Rattle.changes.specs.Difference.{none, change, ◌or_else◌, unequal, unlike, task_difference};
 

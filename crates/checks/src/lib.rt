@@ -1,4 +1,6 @@
 // Checks 5 to 11 and 16 of a table, in their order: 5 to 8 of its board, of which 5 and 8 are in `limits`, 6 and 7, and 16 in their place, in `timing`; then 9 to 11, which are in `tasks`.
+#![tactic(auto)]
+
 ghost use Rattle.std.specs.Prelude.{◌≡◌};
 ghost use Rattle.rules.specs.Refusals.{check_row, board_refusal, check_board, check_table};
 

@@ -1,4 +1,6 @@
 // The rounds of F, of plain terms.
+#![tactic(auto)]
+
 ghost use Rattle.std.specs.Prelude.{◌≡◌};
 ghost use Rattle.releases.specs.Releases.{Small};
 ghost use Rattle.terms.specs.Terms.{terms_of};

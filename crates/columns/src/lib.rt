@@ -1,4 +1,6 @@
 // The judgement of one task of an accepted table, and of all: its figures go into lent columns.
+#![tactic(auto)]
+
 ghost use Rattle.std.specs.Prelude.{◌≡◌, true, ◌≤◌, ◌<◌, length, get_or};
 ghost use Rattle.laws.specs.Idioms.{Within};
 ghost use Rattle.facts.specs.Sound.{Sound};

@@ -1,4 +1,6 @@
 // Answers a stream of cases, each of an operation's letter, its payload's length in 2 bytes and the payload: ../README.md.
+#![tactic(auto)]
+
 mod lines;
 mod raw;
 

@@ -1,6 +1,8 @@
 // What the programs have in common: reading a named file or standard input, writing, words on standard error, the status.
 // No contract can speak of what is read or written: these functions are proved safe and ending. `who` is what a line on standard error
 // begins with, as `list: `. A file is the number of the word that names it; 0 is standard input.
+#![tactic(auto)]
+
 mod files;
 mod notes;
 

@@ -1,4 +1,5 @@
 // What a table file holds, as far as it reaches: whether its board is one, and the table of its first records. Nothing is said of its trailer.
+#![tactic(auto)]
 
 ghost use Rattle.std.specs.Prelude.{◌≡◌, ◌+◌, ◌≤◌, length};
 ghost use Rattle.laws.specs.Idioms.{filled};

@@ -1,4 +1,6 @@
 // What tasks ask for in a time.
+#![tactic(auto)]
+
 ghost use Rattle.std.specs.Prelude.{◌*◌, ◌^◌, ◌≤◌};
 ghost use Rattle.laws.specs.Idioms.{Within};
 ghost use Rattle.releases.specs.Releases.{Small};

@@ -1,4 +1,6 @@
 // A row's figures, and what holds a command off (RULES 3.1 to 3.3), in cycles.
+#![tactic(auto)]
+
 ghost use Rattle.std.specs.Prelude.{◌≡◌, ◌+◌, ◌-◌, ◌/◌, ◌<◌, ◌≤◌, get_or};
 ghost use Rattle.laws.specs.Idioms.{◌⊖◌, larger};
 ghost use Rattle.rules.specs.Timing.{WL, BL, tWTR};

@@ -1,4 +1,6 @@
 // The delay figures (RULES 3) as times: the cycles times tCK.
+#![tactic(auto)]
+
 ghost use Rattle.std.specs.Prelude.{◌≡◌, ◌+◌, ◌*◌, ◌<◌, ◌^◌};
 ghost use Rattle.rules.specs.Timing.{tCK};
 ghost use Rattle.rules.specs.Units.{in_time, ◌⊕◌};

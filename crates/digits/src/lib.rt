@@ -1,4 +1,6 @@
 // The digits of a number.
+#![tactic(auto)]
+
 ghost use Rattle.std.specs.Prelude.{◌≡◌, length};
 ghost use Rattle.digits.specs.Spelled.{Spelled};
 

@@ -1,4 +1,6 @@
 // What the cores of a DRAM table cost each other: RULES 4.2 to 4.7 core by core, as prices.
+#![tactic(auto)]
+
 ghost use Rattle.std.specs.Prelude.{◌≡◌, ◌≤◌};
 ghost use Rattle.rules.specs.declared.Table.{Table};
 ghost use Rattle.facts.specs.Sound.{SoundRow};

@@ -1,4 +1,6 @@
 // A table as the bytes of its file before their trailer, into a lent buffer that has room for them. Where the parts stand is `places`'.
+#![tactic(auto)]
+
 ghost use Rattle.std.specs.Prelude.{◌≡◌, ◌+◌, ◌*◌, ◌≤◌, map, length, take};
 ghost use Rattle.std.proofs.lemmas.List.Edits.{sets};
 ghost use Rattle.laws.specs.Idioms.{joined, bytes_of};

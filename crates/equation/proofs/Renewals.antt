@@ -26,3 +26,4 @@ module _ {t u : ℕ} (pos : 1 ≤ t) (later : t ≤ u) where
       rw e (omega (arith, (first each).rises t u later, (first each).some t pos, renewals_rise cs (rest each)))
   renewals-same {cs = d ∷ cs} each none (Memᴰ.tail m) =
       renewals-same (rest each) (omega (arith, (first each).rises t u later, (first each).some t pos)) m
+  renewals-same {c = c} {cs = []} each none x8 = elim x8 [ ]

@@ -1,1 +1,2 @@
 // Theory alone: see specs/ and proofs/.
+#![tactic(auto)]

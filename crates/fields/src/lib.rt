@@ -1,4 +1,5 @@
 // The figures and records of a file that reaches so far. What the bytes mean is in the rules, where they stand is `places`'.
+#![tactic(auto)]
 
 ghost use Rattle.std.specs.Prelude.{◌≡◌, ◌+◌, ◌*◌, ◌≤◌, ◌<◌, length};
 ghost use Rattle.std.proofs.lemmas.List.Edits.{sets};

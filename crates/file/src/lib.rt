@@ -1,5 +1,6 @@
 // Table files, read. Reading is two parts (RULES 7.4): did the file come whole, which is `arrival`'s; and its figures, which are taken out here. What the
 // bytes mean is in the rules; how figures and records are read is `fields`', and what they are together `contents`'.
+#![tactic(auto)]
 
 ghost use Rattle.std.specs.Prelude.{◌≡◌, true};
 ghost use Rattle.rules.specs.Chain.{is_accepted};

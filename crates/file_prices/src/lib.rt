@@ -1,4 +1,6 @@
 // What the cores of an accepted table file cost each other, from its bytes.
+#![tactic(auto)]
+
 ghost use Rattle.std.specs.Prelude.{◌≡◌, true};
 ghost use Rattle.rules.specs.Chain.{is_accepted};
 ghost use Rattle.rules.specs.File.{decode};

@@ -1,4 +1,6 @@
 // What the tasks of other cores cost a job at least: from time 1 on two jobs of each of them count, one released and one carried in.
+#![tactic(auto)]
+
 ghost use Rattle.std.specs.Prelude.{◌≡◌, ◌*◌, ◌^◌, get_or};
 ghost use Rattle.counts.specs.Counts.{twice_of, Summed, Bounded};
 ghost use Rattle.floors.specs.Floors.{Lots, Doubled, Fits, others_with};

@@ -1,4 +1,6 @@
 // The tasks core after core: in which order they stand, and where each core's begin.
+#![tactic(auto)]
+
 ghost use Rattle.std.specs.Prelude.{length, ◌+◌, ◌≤◌};
 ghost use Rattle.standing.specs.OnCore.{places_on};
 ghost use Rattle.groups.specs.Grouped.{PlacesBelow, Joined, Ordered};

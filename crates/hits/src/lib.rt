@@ -1,4 +1,6 @@
 // What a request to its own bank costs, and how many row hits may pass it (RULES 3.4, 3.6), in cycles.
+#![tactic(auto)]
+
 ghost use Rattle.std.specs.Prelude.{◌≡◌, ◌/◌, ◌≤◌, min};
 ghost use Rattle.rules.specs.Delays.{hit, reopen, conf, window};
 

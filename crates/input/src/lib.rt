@@ -1,4 +1,6 @@
 // How much of an input a program reads: the array that it reads into has its length by its type, and what stands in it tells of the whole input.
+#![tactic(auto)]
+
 ghost use Rattle.std.specs.Prelude.{◌≡◌, List, ℕ, ◌≤◌, length, take};
 ghost use Rattle.input.specs.StandsFor.{StandsFor};
 

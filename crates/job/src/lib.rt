@@ -1,4 +1,6 @@
 // Job, of plain terms: added up core by core, and no further than request.
+#![tactic(auto)]
+
 ghost use Rattle.std.specs.Prelude.{◌*◌, ◌^◌, ◌≤◌};
 ghost use Rattle.laws.specs.Idioms.{Within};
 ghost use Rattle.releases.specs.Releases.{Small};

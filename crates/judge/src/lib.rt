@@ -1,4 +1,6 @@
 // Judgement of one task and of all: what is refused before them, then the rounds.
+#![tactic(auto)]
+
 ghost use Rattle.std.specs.Prelude.{◌≡◌};
 ghost use Rattle.rules.specs.Operations.{judge_one, judge_all};
 ghost use Rattle.columns.specs.Numbered.{not_judged};

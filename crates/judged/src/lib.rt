@@ -1,4 +1,6 @@
 // A table file judged into three outputs that are lent.
+#![tactic(auto)]
+
 ghost use Rattle.std.specs.Prelude.{◌≡◌};
 ghost use Rattle.judged.specs.JudgedFile.{check_judged_file, JudgedFile};
 

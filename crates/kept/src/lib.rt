@@ -1,4 +1,6 @@
 // How many records of a file are kept (RULES 7.7): those before the first that the file does not reach the end of, or in which 9 to 11 find a fault.
+#![tactic(auto)]
+
 ghost use Rattle.std.specs.Prelude.{◌≡◌, ◌+◌, ◌≤◌, length};
 ghost use Rattle.rules.specs.File.{recordsAt, cores_in, form_in};
 ghost use Rattle.rules.specs.Salvage.{task_fault, is_sound, kept};

@@ -1,4 +1,6 @@
 // The two sums of at most 16 words of lent bytes, eight bytes at a time.
+#![tactic(auto)]
+
 ghost use Rattle.std.specs.Prelude.{◌≡◌, ◌+◌, ◌*◌, ◌%◌, ◌≤◌, length};
 ghost use Rattle.lanes.specs.Sums.{sums_of};
 ghost use Rattle.lanes.specs.Lanes.{evens_of, added_of, weighed_of, early, sums_in};

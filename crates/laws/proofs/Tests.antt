@@ -1,7 +1,7 @@
 -- What a test that passed says of its parts, and one that cannot pass. Assumes nothing.
 use mathlib.Core.Path.{◌≡◌, refl}
 use mathlib.Core.Bool.{Bool, true, false, ◌&&◌, ◌||◌}
-use mathlib.Core.List.{List, ◌∷◌, Memᴰ}
+use mathlib.Core.List.{[], List, ◌∷◌, Memᴰ}
 use Prim.Native.Nat.{ℕ}
 use native.Mathlib.Omega.{arith}
 use lib.Dec.{leb}
@@ -34,6 +34,7 @@ inside lowest highest x e =
     let h = and_both (leb lowest x) (leb x highest) e in
     record { low = leb-true lowest x h.0; high = leb-true x highest h.1 }
 
-pub every_member : {A : Type 0} (p : A → Bool) {l : List A} {x : A} → every p l ≡ true → Memᴰ x l → p x ≡ true
+pub every_member : {A : Type 0} (p : A → Bool) {x : A} {l : List A} → every p l ≡ true → Memᴰ x l → p x ≡ true
 every_member p {l = y ∷ ys} e (Memᴰ.head same) = rw same (and_both (p y) (every p ys) e).0
 every_member p {l = y ∷ ys} e (Memᴰ.tail m) = every_member p (and_both (p y) (every p ys) e).1 m
+every_member {A = A} p {l = []} e x6 = elim x6 [ ]

@@ -1,1 +1,2 @@
 // Theorems alone: lists, places, sums and numbers. No word of the rules.
+#![tactic(auto)]

@@ -1,4 +1,6 @@
 // list [FILE]: the listing of a table file, or of standard input, on standard output.
+#![tactic(auto)]
+
 use console::Got;
 
 // The listing, and whether it was written.

@@ -1,4 +1,6 @@
 // The listing (RULES 8): its bytes for a table with its answers, and for a table file, into a lent buffer.
+#![tactic(auto)]
+
 ghost use Rattle.std.specs.Prelude.{◌≡◌, true, ◌≤◌, length, replicate};
 ghost use Rattle.rules.specs.Chain.{is_accepted};
 ghost use Rattle.rules.specs.Refusals.{check_judged};

@@ -1,4 +1,6 @@
 // Which task misses first, and the last line of a listing, which says it: into a buffer that has room for it.
+#![tactic(auto)]
+
 ghost use Rattle.std.specs.Prelude.{◌≡◌, ◌+◌, ◌≤◌, length};
 ghost use Rattle.rules.specs.Listing.{is_miss};
 ghost use Rattle.text.specs.Put.{Put};

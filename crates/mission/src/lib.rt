@@ -1,5 +1,7 @@
 // The sentences of docs/CLAIMS.md on judgements, on the operations themselves: each function makes the call that a sentence speaks of, and its contract says
 // what it gives and then the sentence. Nobody has to call these; they are here to be proved. Those on files are in `mission_files`.
+#![tactic(auto)]
+
 ghost use Rattle.std.specs.Prelude.{◌≡◌};
 ghost use Rattle.rules.specs.Operations.{judge_all, fresh_starts, rejudging};
 ghost use Rattle.claims.specs.Point2.{MayBeJudged};

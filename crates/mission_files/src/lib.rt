@@ -1,5 +1,7 @@
 // The sentences of docs/CLAIMS.md on files, on the operations themselves: each function makes the calls that a sentence speaks of, and its contract says
 // what it gives and then the sentence. Nobody has to call these; they are here to be proved. Those on judgements are in `mission`.
+#![tactic(auto)]
+
 ghost use Rattle.std.specs.Prelude.{◌≡◌, ◌≢◌, true, false, ◌<◌, length, take, get_or, set, replicate};
 ghost use Rattle.rules.specs.Chain.{accepted, is_accepted};
 ghost use Rattle.rules.specs.File.{check_whole};

@@ -1,4 +1,6 @@
 // The order of two tables: is the newer the older one worsened, and if not, which figure is at fault?
+#![tactic(auto)]
+
 ghost use Rattle.std.specs.Prelude.{◌≡◌};
 ghost use Rattle.rules.specs.Order as Order;
 ghost use Rattle.changes.specs.Difference as Difference;

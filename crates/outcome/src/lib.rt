@@ -1,4 +1,6 @@
 // What a judgement puts into three outputs that are lent.
+#![tactic(auto)]
+
 ghost use Rattle.std.specs.Prelude.{◌≡◌, ◌≤◌, take};
 ghost use Rattle.rules.specs.Chain.{◌or_else◌};
 ghost use Rattle.stored.specs.Stored.{check_outputs, Stored};

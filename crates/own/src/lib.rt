@@ -1,4 +1,6 @@
 // The figures of its own that the judgement of one task of lent columns starts from.
+#![tactic(auto)]
+
 ghost use Rattle.std.specs.Prelude.{◌≡◌, ◌≤◌, ◌<◌};
 ghost use Rattle.floors.specs.Floors.{Doubled, Fits};
 ghost use Rattle.own.specs.Own.{own_of};

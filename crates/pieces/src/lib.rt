@@ -1,4 +1,6 @@
 // One of several texts that stand in one, with a mark between each two.
+#![tactic(auto)]
+
 ghost use Rattle.std.specs.Prelude.{◌≡◌};
 ghost use Rattle.pieces.specs.Pieces.{piece_of};
 

@@ -1,4 +1,5 @@
 // Where the parts of a table file stand, and how long it is, by its header's bytes.
+#![tactic(auto)]
 
 ghost use Rattle.std.specs.Prelude.{◌≡◌, ◌+◌, ◌<◌, ◌≤◌};
 ghost use Rattle.rules.specs.File.{sets_at, recordSize, recordAt, file_length};

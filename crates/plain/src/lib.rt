@@ -1,4 +1,6 @@
 // Refusals, bounds and starts as plain numbers, as C has them.
+#![tactic(auto)]
+
 ghost use Rattle.std.specs.Prelude.{◌≡◌, take};
 ghost use Rattle.laws.specs.Idioms.{filled};
 ghost use Rattle.rules.specs.Judgement.{bound_of};

@@ -1,4 +1,6 @@
 // What the cores of a board pay, whatever its kind.
+#![tactic(auto)]
+
 ghost use Rattle.std.specs.Prelude.{◌≡◌};
 ghost use Rattle.prices.specs.Costs.{no_costs};
 

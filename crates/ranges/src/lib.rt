@@ -1,4 +1,6 @@
 // The ranges of a DRAM's timing figures, and check 6: each figure in its range.
+#![tactic(auto)]
+
 ghost use Rattle.std.specs.Prelude.{◌≡◌};
 ghost use Rattle.rules.specs.Chain.{first};
 ghost use Rattle.rules.specs.Refusals.{figure_fault};

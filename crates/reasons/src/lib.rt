@@ -1,4 +1,6 @@
 // A short text for a refusal's number, into a lent buffer.
+#![tactic(auto)]
+
 ghost use Rattle.std.specs.Prelude.{◌≤◌, length};
 ghost use Rattle.laws.specs.Idioms.{Within};
 ghost use Rattle.text.specs.Put.{Given};

@@ -1,4 +1,6 @@
 // A newer table file judged after an older one, from the older bounds where that is sound, into three outputs that are lent.
+#![tactic(auto)]
+
 ghost use Rattle.std.specs.Prelude.{◌≡◌, ◌≤◌};
 ghost use Rattle.recarry.specs.Files.{carry_refusal, CarriedFiles, files_worsen, table_number, carry_code};
 

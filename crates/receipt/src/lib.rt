@@ -1,4 +1,6 @@
 // The receipt of a file, which says whether it came whole and nothing of its figures: a line, and how the program that writes it ends. And the line of any refusal.
+#![tactic(auto)]
+
 ghost use Rattle.std.specs.Prelude.{◌≡◌, ◌≤◌, length};
 ghost use Rattle.rules.specs.Listing.{refused_line, receipt};
 ghost use Rattle.text.specs.Put.{Given};

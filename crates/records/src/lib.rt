@@ -1,4 +1,6 @@
 // The records of a table's tasks, into a lent buffer that has room for them. Where they stand is `places`'.
+#![tactic(auto)]
+
 ghost use Rattle.std.specs.Prelude.{◌≡◌, ◌+◌, ◌≤◌, map, length};
 ghost use Rattle.std.proofs.lemmas.List.Edits.{sets};
 ghost use Rattle.laws.specs.Idioms.{joined};

@@ -1,4 +1,6 @@
 // Judgement of a newer table after an older one, from the older bounds where that is sound: the refusals of both. The answers are `after`'s.
+#![tactic(auto)]
+
 ghost use Rattle.std.specs.Prelude.{◌≡◌};
 ghost use Rattle.rejudge.specs.Carried.{not_rejudged, Carried};
 

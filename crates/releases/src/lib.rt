@@ -1,4 +1,6 @@
 // How often a task is released in a time: how many periods begin in it.
+#![tactic(auto)]
+
 ghost use Rattle.std.specs.Prelude.{◌^◌, ◌≤◌};
 ghost use Rattle.laws.specs.Idioms.{Within};
 ghost use Rattle.releases.specs.Releases.{Counted, Small};

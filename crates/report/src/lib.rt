@@ -1,4 +1,6 @@
 // The report of a salvage (RULES 8.5): its line, into a lent buffer.
+#![tactic(auto)]
+
 ghost use Rattle.std.specs.Prelude.{◌≡◌, ◌≤◌, length};
 ghost use Rattle.rules.specs.Listing.{report};
 ghost use Rattle.text.specs.Put.{Put, Given};

@@ -1,4 +1,6 @@
 // Judgement of every task of lent columns: the rounds, and the refusals that a judgement meets on the way.
+#![tactic(auto)]
+
 ghost use Rattle.std.specs.Prelude.{◌≡◌};
 ghost use Rattle.rounds.specs.Lent.{Lent, lent_of, Judgeable, judged_lent};
 

@@ -1,4 +1,6 @@
 // The rows of a listing, into a buffer that has room for them: a line for each task.
+#![tactic(auto)]
+
 ghost use Rattle.std.specs.Prelude.{◌+◌, ◌≤◌, length};
 ghost use Rattle.rules.specs.Listing.{task_line};
 ghost use Rattle.text.specs.Put.{Put};

@@ -1,4 +1,6 @@
 // How long row hits take that follow each other (RULES 3.5), in cycles.
+#![tactic(auto)]
+
 ghost use Rattle.std.specs.Prelude.{◌≡◌, ◌*◌, ◌≤◌};
 ghost use Rattle.rules.specs.Delays.{run};
 

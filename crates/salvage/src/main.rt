@@ -1,5 +1,7 @@
 // salvage [CUT NEW]: what is whole of a cut table file, as a new file; without names, of standard input on standard output. What that is stands in a line on
 // standard output, or, where the new file is there, on standard error.
+#![tactic(auto)]
+
 use console::Got;
 use rules::Salvaged;
 

@@ -1,4 +1,6 @@
 // What is whole of a table file that was cut, taken back and written as a new file that says so (RULES 7.7, 7.8).
+#![tactic(auto)]
+
 ghost use Rattle.std.specs.Prelude.{◌≡◌, true, false, cond, ◌+◌, ◌≤◌, eqb};
 ghost use Rattle.rules.specs.Chain.{is_accepted};
 ghost use Rattle.rules.specs.Refusals.{check_board};

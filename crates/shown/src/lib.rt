@@ -1,4 +1,6 @@
 // What the header of an accepted file shows: how many tasks it has, and where a task's record starts.
+#![tactic(auto)]
+
 ghost use Rattle.std.specs.Prelude.{◌≡◌};
 ghost use Rattle.shown.specs.Shown.{task_count, recordPlace};
 

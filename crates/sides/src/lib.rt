@@ -1,4 +1,6 @@
 // RULES 4.1: which cores are near a core and which far from it, by the sets of partitions, as bits.
+#![tactic(auto)]
+
 ghost use Rattle.std.specs.Prelude.{◌≡◌, ◌≤◌, replicate, true, false};
 ghost use Rattle.rules.specs.Cores.{share};
 ghost use Rattle.sides.specs.Masks.{as_bit, mask, on_side, side_masks};

@@ -1,4 +1,6 @@
 // Where a task stands among those of its core.
+#![tactic(auto)]
+
 ghost use Rattle.std.specs.Prelude.{◌≡◌, eqb, length, get_or, ◌+◌, ◌≤◌, ◌<◌};
 ghost use Rattle.standing.specs.OnCore.{OneIf, places_on};
 

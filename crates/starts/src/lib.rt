@@ -1,4 +1,6 @@
 // Starts as a column of numbers.
+#![tactic(auto)]
+
 ghost use Rattle.std.specs.Prelude.{◌≡◌};
 ghost use Rattle.starts.specs.Starts.{in_picos};
 

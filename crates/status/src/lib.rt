@@ -1,4 +1,6 @@
 // How a program that lists a file ends: the number that it gives to whoever started it.
+#![tactic(auto)]
+
 ghost use Rattle.std.specs.Prelude.{◌≡◌, cond, ◌≤◌};
 ghost use Rattle.status.specs.Status.{all_hold, file_status};
 

@@ -1,4 +1,6 @@
 // Answers put into three outputs that are lent, as plain numbers.
+#![tactic(auto)]
+
 ghost use Rattle.std.specs.Prelude.{◌≡◌, ◌||◌, ◌≤◌, ltb, take};
 ghost use Rattle.plain.specs.Codes.{by_number};
 ghost use Rattle.stored.specs.Stored.{check_outputs, Stored};

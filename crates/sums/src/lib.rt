@@ -1,4 +1,6 @@
 // The two sums of a trailer, over lent bytes: a block of words at a time, and byte by byte what is left.
+#![tactic(auto)]
+
 ghost use Rattle.std.specs.Prelude.{◌≡◌, ◌+◌, ◌*◌, ◌<◌, ◌≤◌, min, length};
 ghost use Rattle.lanes.specs.Sums.{sums_of, joined_sums};
 

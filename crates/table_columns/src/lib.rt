@@ -1,4 +1,6 @@
 // The figures of an accepted table's tasks in lent columns.
+#![tactic(auto)]
+
 ghost use Rattle.std.specs.Prelude.{◌≡◌, length};
 ghost use Rattle.facts.specs.Sound.{Sound};
 ghost use Rattle.groups.specs.Grouped.{PlacesBelow};

@@ -1,4 +1,6 @@
 // Checks 9 to 11, of a table's tasks, in one walk over them.
+#![tactic(auto)]
+
 ghost use Rattle.std.specs.Prelude.{◌≡◌};
 ghost use Rattle.rules.specs.Tasks.{no_task};
 ghost use Rattle.rules.specs.Refusals.{time_fault, check_tasks};

@@ -1,4 +1,6 @@
 // F without overflow, of plain terms: the tasks of all cores, core after core.
+#![tactic(auto)]
+
 ghost use Rattle.std.specs.Prelude.{◌≡◌, ◌*◌, ◌^◌, ◌≤◌, min};
 ghost use Rattle.releases.specs.Releases.{Small};
 ghost use Rattle.terms.specs.Terms.{Fair, terms_of, applied};

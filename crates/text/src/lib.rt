@@ -1,4 +1,6 @@
 // Words and numbers as text in a lent buffer: put where there is room for them, given to a buffer whole or not at all.
+#![tactic(auto)]
+
 ghost use Rattle.std.specs.Prelude.{[], ◌∷◌, ◌++◌, ◌+◌, ◌≤◌, length};
 ghost use Rattle.laws.specs.Decimal.{decimal};
 ghost use Rattle.text.specs.Put.{Put, Given};

@@ -1,4 +1,6 @@
 // A timing row: the supplied one; checks 6 and 7 of a DRAM's, each figure in its range, which is `ranges`', then the relations between them; check 16 of a bus's.
+#![tactic(auto)]
+
 ghost use Rattle.std.specs.Prelude.{◌≡◌, ◌%◌, ◌≤◌};
 ghost use Rattle.rules.specs.Timing.{ddr3_1333};
 ghost use Rattle.rules.specs.Chain.{first};

@@ -1,4 +1,6 @@
 // Starts that come after the latest allowed response, and what is given where no task is judged.
+#![tactic(auto)]
+
 ghost use Rattle.std.specs.Prelude.{◌≡◌, cond, ◌≤◌};
 ghost use Rattle.rules.specs.Judgement.{misses};
 ghost use Rattle.rules.specs.Chain.{is_accepted};

@@ -1,4 +1,6 @@
 // The tasks of an accepted table file judged from its bytes: the figures go into lent columns, and no table is made.
+#![tactic(auto)]
+
 ghost use Rattle.std.specs.Prelude.{◌≡◌, true, length};
 ghost use Rattle.rules.specs.declared.Table.{Table};
 ghost use Rattle.rules.specs.Chain.{is_accepted};

@@ -1,4 +1,5 @@
 // The record of a task, shown as a part of a lent file.
+#![tactic(auto)]
 
 ghost use Rattle.std.specs.Prelude.{◌≡◌};
 ghost use Rattle.rules.specs.Operations.{check_view, viewing};

@@ -1,4 +1,6 @@
 // What one request of a core costs a job of another, and RD, from the bits of near and far cores: RULES 4.2 to 4.7 as numbers.
+#![tactic(auto)]
+
 ghost use Rattle.std.specs.Prelude.{◌≡◌, ◌-◌, ◌*◌, ◌/◌, ◌%◌, ◌^◌, ◌≤◌};
 ghost use Rattle.std.specs.Int.Count.{ones};
 ghost use Rattle.rules.specs.declared.Table.{Table};

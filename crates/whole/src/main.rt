@@ -1,4 +1,6 @@
 // whole [FILE]: whether a table file, or standard input, came whole, on standard output.
+#![tactic(auto)]
+
 use console::Got;
 
 fn show(word: usize, file: &[u8]) -> u8 {

@@ -1,4 +1,6 @@
 // The words of an answer: the end of its line in a listing.
+#![tactic(auto)]
+
 ghost use Rattle.std.specs.Prelude.{[], ◌∷◌, ◌++◌, ◌+◌, ◌≤◌, length};
 ghost use Rattle.laws.specs.Decimal.{decimal};
 ghost use Rattle.rules.specs.Listing.{line, delay_word, verdict_words};

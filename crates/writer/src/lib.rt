@@ -1,4 +1,6 @@
 // Table files: writing. What is refused; what is written is that of `encode` and `seal`.
+#![tactic(auto)]
+
 ghost use Rattle.std.specs.Prelude.{◌≡◌};
 ghost use Rattle.writer.specs.Answers.{wrote_nothing, Wrote};
 
