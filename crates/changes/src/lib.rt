@@ -7,7 +7,7 @@ ghost use Rattle.changes.specs.Difference.{none, change, ◌or_else◌, unequal,
 use rules::Task;
 
 // A figure at fault: its number, as specs/Difference lists them, its place, and what it was and is. All are 0 where none is.
-#[derive(Drop)]
+#[derive(Clone, Copy)]
 pub struct Change {
     pub what: u8,
     pub place: u8,

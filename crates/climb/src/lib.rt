@@ -17,7 +17,7 @@ fn lowest(own: Own) -> u64
 }
 
 // Whether F lowers the start that the rounds use, and the answer.
-#[derive(Drop)]
+#[derive(Clone, Copy)]
 pub struct Climbed {
     pub high: bool,
     pub answer: Answer,

@@ -29,7 +29,7 @@ pub fn later(
 }
 
 // What the higher tasks of a core ask for: the sums of C and of H.
-#[derive(Drop)]
+#[derive(Clone, Copy)]
 pub struct Higher {
     pub execs: u64,
     pub requests: u64,

@@ -14,7 +14,7 @@ use rules::{Cycles, Picos};
 use runs::run;
 
 // The figures that a core's delays are made of, as times, and the window, a count.
-#[derive(Drop)]
+#[derive(Clone, Copy)]
 pub struct Figures {
     pub crossing: Picos,
     pub conflict: Picos,

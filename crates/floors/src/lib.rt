@@ -37,7 +37,7 @@ pub fn doubled(cores: usize, from: &[usize; 9], asks: &[u64; 33]) -> [u64; 8]
 
 // What a job meets of the other cores: how many cores there are, its own with them; the weight of one request of each, which is 0 for its own; and
 // what two jobs of each task cost.
-#[derive(Drop)]
+#[derive(Clone, Copy)]
 pub struct Others {
     pub cores: usize,
     pub weight: [Picos; 8],

@@ -6,7 +6,7 @@ ghost use Rattle.lanes.specs.Sums.{sums_of};
 ghost use Rattle.lanes.specs.Lanes.{evens_of, added_of, weighed_of, early, sums_in};
 
 // RULES 7.3: of some bytes the sum, and the sum of the running sums.
-#[derive(Drop)]
+#[derive(Clone, Copy)]
 pub struct Totals {
     pub sum: u64,
     pub running: u64,

@@ -7,14 +7,14 @@ ghost use Rattle.prices.specs.Costs.{no_costs};
 use rules::Picos;
 
 // For one core, as times: RD, and what one request of each core costs one of its jobs.
-#[derive(Drop)]
+#[derive(Clone, Copy)]
 pub struct CoreCosts {
     pub request: Picos,
     pub weight: [Picos; 8],
 }
 
 // How many tasks and cores there are, and what the cores cost each other.
-#[derive(Drop)]
+#[derive(Clone, Copy)]
 pub struct Priced {
     pub tasks: usize,
     pub cores: usize,

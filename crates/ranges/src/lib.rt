@@ -10,7 +10,7 @@ use basics::refused;
 use rules::Refusal;
 
 // The lowest and highest of a figure.
-#[derive(Drop)]
+#[derive(Clone, Copy)]
 pub struct Limits(pub u16, pub u16);
 
 // The ranges of RULES 2.4, in that order. BL has its lowest and highest here; not all between them pass.

@@ -7,7 +7,7 @@ ghost use Rattle.recarry.specs.Files.{carry_refusal, CarriedFiles, files_worsen,
 use rules::{Faulty, Refusal};
 
 // Why nothing is judged, and which of the two files that is about: neither where an output is too short.
-#[derive(Drop)]
+#[derive(Clone, Copy)]
 pub struct CarryRefusal {
     pub refusal: Refusal,
     pub faulty: Faulty,

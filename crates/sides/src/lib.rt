@@ -28,7 +28,7 @@ fn on_side(sets: &[u16; 8], p: usize, q: usize, near: bool) -> u8
 }
 
 // The cores near a core and those far from it, as bits.
-#[derive(Drop)]
+#[derive(Clone, Copy)]
 pub struct Sides {
     pub near: u8,
     pub far: u8,

@@ -23,7 +23,7 @@ fn time_fault(x: Task) -> bool
 }
 
 // The first task at fault of each kind, 9 to 11; 0 where none is.
-#[derive(Drop)]
+#[derive(Clone, Copy)]
 pub struct Faults {
     pub core: u8,
     pub time: u8,

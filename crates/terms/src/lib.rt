@@ -27,7 +27,7 @@ fn capped(a: u64, b: u64) -> u64
 
 // The judged task's own figures: C, H and the latest allowed response; RD of its core, and what it meets of the others; the place of its core's first
 // task, and its own.
-#[derive(Drop)]
+#[derive(Clone, Copy)]
 pub struct Own {
     pub exec: u64,
     pub requests: u64,
@@ -39,7 +39,7 @@ pub struct Own {
 }
 
 // What F gives, and which of the two delays decided.
-#[derive(Drop)]
+#[derive(Clone, Copy)]
 pub struct Applied {
     pub time: u64,
     pub by: Delay,
