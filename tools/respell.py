@@ -14,10 +14,10 @@ import re
 import sys
 
 TOKEN = re.compile(r"[^\s(){}\[\],;.\"@λ\\`]+")
-DECL = re.compile(r"^(\s*)(?:(?:unfoldable|abbrev|pub|opaque)\s+)*(data|record)?\s*([^\s:(){}|;=]+)(?:\s+[({].*[)}])?\s+:(?:\s|$)")
+DECL = re.compile(r"^(\s*)(?:(?:unfoldable|abbrev|pub|opaque)\s+)*(?:(data|record)\s+)?([^\s:(){}|;=]+)(?:\s+[({].*[)}])?\s+:(?:\s|$)")
 # symbols: they are spelled as in docs/RULES.md
 SYMBOLS = re.compile(r"^(?:[A-Z]|RD|JD|CL|WL|BL|Ncols|Ncap|t[A-Z]+)$")
-KEPT = {"busRD", "busJD", "formerF"}
+KEPT = set()
 # lemmas that port.py gave the name that a definition beside them gets here
 FIRST = {"crates/stored/proofs/": {"too_short": "too_short_lem"}}
 

@@ -14,14 +14,14 @@ fn trailer(file: &[u8]) -> Refusal
 {
     let n = file.len();
     let e = n - 12;
-    if bytes::le32(file, e) as usize != e {
+    if lent_bytes::le32(file, e) as usize != e {
         return basics::refused(3, 0);
     }
     let total = sums::sums(&file[..e]);
-    if bytes::le32(file, n - 8) as u64 != total.sum {
+    if lent_bytes::le32(file, n - 8) as u64 != total.sum {
         return basics::refused(4, 0);
     }
-    if bytes::le32(file, n - 4) as u64 != total.running {
+    if lent_bytes::le32(file, n - 4) as u64 != total.running {
         return basics::refused(4, 0);
     }
     basics::refused(0, 0)

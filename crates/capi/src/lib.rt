@@ -11,7 +11,7 @@ ghost use Rattle.plain.specs.Codes.{code_of, salvage_code};
 ghost use Rattle.judged.specs.JudgedFile.{check_judged_file, JudgedFile};
 ghost use Rattle.recarry.specs.Files.{carry_code, carry_refusal, CarriedFiles, files_worsen};
 ghost use Rattle.reasons.specs.Reasons.{reason_text};
-ghost use Rattle.shown.specs.Shown.{task_count, recordPlace};
+ghost use Rattle.shown.specs.Shown.{task_count, record_place};
 
 // The refusal of a table file, 0 where it is accepted.
 #[unsafe(no_mangle)]
@@ -71,7 +71,7 @@ pub extern "C" fn ryb_view(file: &[u8], task: u8) -> u16
 // Where a task's record starts in the file, 0 where there is none.
 #[unsafe(no_mangle)]
 pub extern "C" fn ryb_record(file: &[u8], task: u8) -> usize
-    ensures { result ≡ recordPlace file.now task }
+    ensures { result ≡ record_place file.now task }
 {
     shown::record_place(file, task)
 }

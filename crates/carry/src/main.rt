@@ -2,7 +2,7 @@
 // spared, or what stood against it.
 #![tactic(auto)]
 
-use bytes::front;
+use lent_bytes::front;
 use changes::Change;
 use console::{Got, note, note_number, part};
 use rules::{Answer, Picos, Refusal, Table};

@@ -21,14 +21,14 @@ use Rattle.facts.proofs.Memory.{response_worse}
 use Rattle.facts.proofs.Instance.{equation_of_lem}
 use Rattle.facts.proofs.Points.{fresh-right}
 use Rattle.claims.specs.Point2.{JudgedTask, HoldsFresh}
-use Rattle.claims.specs.NoRun.{former_run, former_intra, former_memory, formerF, formerly_and_now, NoRun}
+use Rattle.claims.specs.NoRun.{former_run, former_intra, former_memory, former_F, formerly_and_now, NoRun}
 use Rattle.claims.proofs.Point2.{fresh-judgeable, holds-fresh}
 use Rattle.claims.proofs.Spared.{no_hit, some-hit, RD-falls, RD-stays, RD_no_more, JD-stays}
 
 slower : (t : Table) (p : ℕ) → Slower (memory_of t p) (former_memory t p)
 slower t p = record { per_request = RD_no_more t p; per_job = λ x. le_of_eq (sym (JD-stays t p x)) }
 
-F_no_more : (t : Table) (k x : ℕ) → F t k x ≤ formerF t k x
+F_no_more : (t : Table) (k x : ℕ) → F t k x ≤ former_F t k x
 unfolding F
 F_no_more t k x =
     let same : (i : Task) → NoMore x x i i = λ i. record { exec = le_refl (C i); requests = le_refl (H i); often = le_refl (releases i x) } in
@@ -40,7 +40,7 @@ under_solved fits (least {R = S} m) (low h) = (S, (m.solution, h))
 under_solved fits (none q) (past beyond) = absurd (omega arith)
 
 module _ (t : Table) (k : ℕ) (task : JudgedTask t k) where
-  no_later : (R : ℕ) → Solution (formerF t k) 1 (latest (task_of t k)) R → HoldsFresh t k R
+  no_later : (R : ℕ) → Solution (former_F t k) 1 (latest (task_of t k)) R → HoldsFresh t k R
   no_later R was =
       let table = task.table.accepted in
       let right = fresh-right t table k task.first task.last in

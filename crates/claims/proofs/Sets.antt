@@ -6,7 +6,7 @@ use Rattle.laws.specs.Idioms.{entry}
 use Rattle.rules.specs.declared.Table.{Table}
 use Rattle.rules.specs.declared.Answer.{Answer}
 use Rattle.rules.specs.Tasks.{tasks_on, higher, arrivals}
-use Rattle.rules.specs.Bus.{other_cores, busRD, busJD}
+use Rattle.rules.specs.Bus.{other_cores, bus_RD, bus_JD}
 use Rattle.rules.specs.Board.{bus_memory, memory_of}
 use Rattle.rules.specs.Response.{F, decider}
 use Rattle.rules.specs.Judgement.{lowest, rounds_of, judge}
@@ -21,7 +21,7 @@ module _ (t : Table) (sets : List ℕ) (on : OnBus t sets) where
   other = with_sets sets t
 
   same_memory : (p : ℕ) → memory_of other p ≡ memory_of t p
-  unfolding memory_of bus_memory busRD busJD other_cores arrivals tasks_on
+  unfolding memory_of bus_memory bus_RD bus_JD other_cores arrivals tasks_on
   same_memory p = rw on.bus
 
   same-F : (k : ℕ) → F other k ≡ F t k

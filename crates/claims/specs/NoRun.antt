@@ -36,8 +36,8 @@ unfoldable pub former_memory : Table → ℕ → Memory
 former_memory t p = cond (is_bus t) (bus_memory t p) (record { per_request = inter t p + former_intra t p; per_job = JD t p })
 
 -- RULES 5.4 with it: what F of task k was
-abbrev pub formerF : Table → ℕ → ℕ → ℕ
-formerF t k = response (former_memory t (core_of t k)) (task_of t k) (higher t k)
+abbrev pub former_F : Table → ℕ → ℕ → ℕ
+former_F t k = response (former_memory t (core_of t k)) (task_of t k) (higher t k)
 
 -- where the rule matters: the window of a DRAM table is 0, and core p has another core near it
 pub record Spared (t : Table) (p : ℕ) : Type 0 where
@@ -69,5 +69,5 @@ pub record NoRun : Type 0 where
   pub RD-stays : (t : Table) (p : ℕ) → ¬ Spared t p → (former_memory t p).per_request ≡ (memory_of t p).per_request
   pub JD-stays : (t : Table) (p x : ℕ) → (former_memory t p).per_job x ≡ (memory_of t p).per_job x
   -- so a task that had a bound has one, and no later: it holds no later than any time that satisfied its equation
-  pub no_later : (t : Table) (k : ℕ) → JudgedTask t k → (R : ℕ) → Solution (formerF t k) 1 (latest (task_of t k)) R → HoldsFresh t k R
+  pub no_later : (t : Table) (k : ℕ) → JudgedTask t k → (R : ℕ) → Solution (former_F t k) 1 (latest (task_of t k)) R → HoldsFresh t k R
   pub figures : AllAgree formerly_and_now

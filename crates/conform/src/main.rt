@@ -6,7 +6,7 @@ mod raw;
 
 ghost use Rattle.std.specs.Prelude.{◌≤◌, length};
 
-use bytes::front;
+use lent_bytes::front;
 use console::{Got, part};
 use lines::{labelled, put_answer, put_fields, put_part, refused, word};
 use rules::{Judged, Refusal, Salvaged, Written};
@@ -254,7 +254,7 @@ fn one_case() -> u8 {
     };
     match got {
         0 => 0,
-        3 => one_answer(head[0], bytes::le16(&head, 1)),
+        3 => one_answer(head[0], lent_bytes::le16(&head, 1)),
         _ => cut(),
     }
 }

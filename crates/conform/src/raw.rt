@@ -28,7 +28,7 @@ fn figures(s: &[u8], at: usize, into: &mut [u16])
 {
     let mut i: usize = 0;
     while i < into.len() {
-        into[i] = bytes::le16(s, at + 2 * i);
+        into[i] = lent_bytes::le16(s, at + 2 * i);
         i += 1;
     }
 }
@@ -37,15 +37,15 @@ fn figures(s: &[u8], at: usize, into: &mut [u16])
 fn task(s: &[u8], at: usize) -> Task
     requires { at + 37 ≤ length s.now }
 {
-    let exec = bytes::le64(s, at + 1);
-    let period = bytes::le64(s, at + 9);
-    let deadline = bytes::le64(s, at + 17);
+    let exec = lent_bytes::le64(s, at + 1);
+    let period = lent_bytes::le64(s, at + 9);
+    let deadline = lent_bytes::le64(s, at + 17);
     Task {
         core: s[at],
         exec: Picos(exec),
         period: Picos(period),
         deadline: Picos(deadline),
-        requests: bytes::le32(s, at + 25),
+        requests: lent_bytes::le32(s, at + 25),
     }
 }
 
@@ -85,7 +85,7 @@ pub fn table(payload: &[u8], at: usize) -> Table {
 // The number of 8 bytes at a place of a payload, as a time.
 pub fn start(payload: &[u8], at: usize) -> Picos {
     let s = padded(from(payload, at));
-    Picos(bytes::le64(&s, 0))
+    Picos(lent_bytes::le64(&s, 0))
 }
 
 // The 32 starts that a payload begins with.
@@ -95,7 +95,7 @@ pub fn starts(payload: &[u8]) -> [Picos; 32] {
     let mut all = [fresh; 32];
     let mut i: usize = 0;
     while i < 32 {
-        all[i] = Picos(bytes::le64(&s, 8 * i));
+        all[i] = Picos(lent_bytes::le64(&s, 8 * i));
         i += 1;
     }
     all

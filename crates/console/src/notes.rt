@@ -1,5 +1,5 @@
 // Words on standard error.
-use bytes::front;
+use lent_bytes::front;
 
 pub fn note(words: &[u8]) {
     io::write_all(libc::STDERR_FILENO, words);

@@ -10,12 +10,12 @@ use Rattle.rules.specs.declared.Table.{Table}
 use Rattle.rules.specs.Tasks.{no_task}
 use Rattle.rules.specs.Chain.{refused}
 use Rattle.rules.specs.Refusals.{counts_fault, board_refusal, check_board}
-use Rattle.rules.specs.File.{recordsAt, recordSize, recordAt, recordTask, recordIn, cores_in, form_in, decode}
+use Rattle.rules.specs.File.{records_at, record_size, record_at, record_task, record_in, cores_in, form_in, decode}
 use Rattle.laws.specs.Idioms.{filled}
 use Rattle.laws.proofs.Fill.{fill_step}
 use Rattle.laws.proofs.Tests.{and_false}
 use Rattle.laws.proofs.Runs.{map-up_to-next, length-map-from}
-use Rattle.places.proofs.Places.{records-are, record-within, after-sets}
+use Rattle.places.proofs.Places.{records_are, record_within, after-sets}
 use Rattle.contents.specs.Tasks.{tasks_to}
 
 -- 5 is given from the counts alone
@@ -28,15 +28,15 @@ module _ (s : List ℕ) where
   unfolding decode
   counted-out many = sym (many-cores (decode s) many)
 
-  pub task-next : (i : ℕ) → i < 32 → set (filled 32 no_task (tasks_to s i)) i (recordTask (recordIn s (i + 1))) ≡ filled 32 no_task (tasks_to s (i + 1))
+  pub task-next : (i : ℕ) → i < 32 → set (filled 32 no_task (tasks_to s i)) i (record_task (record_in s (i + 1))) ≡ filled 32 no_task (tasks_to s (i + 1))
   task-next i h =
-      let f : ℕ → Task = λ k. recordTask (recordIn s k) in
+      let f : ℕ → Task = λ k. record_task (record_in s k) in
       rw (map-up_to-next f i) (fill_step 32 no_task (tasks_to s i) i (f (i + 1)) (length-map-from f i 1) h)
 
   -- a file that reaches the end of n records reaches the end of each of them, and of the sets
-  module _ (n : ℕ) (reaches : recordAt (form_in s) (cores_in s) (n + 1) ≤ length s) where
-    pub record-there : (i : ℕ) → i < n → recordAt (form_in s) (cores_in s) (i + 1) + recordSize (form_in s) ≤ length s
-    record-there i h = omega (arith, record-within (form_in s) (cores_in s) i n h)
+  module _ (n : ℕ) (reaches : record_at (form_in s) (cores_in s) (n + 1) ≤ length s) where
+    pub record_there : (i : ℕ) → i < n → record_at (form_in s) (cores_in s) (i + 1) + record_size (form_in s) ≤ length s
+    record_there i h = omega (arith, record_within (form_in s) (cores_in s) i n h)
 
-    pub sets-there : recordsAt (form_in s) (cores_in s) ≤ length s
-    sets-there = omega (arith, records-are (form_in s) (cores_in s), after-sets (form_in s) (cores_in s) (n + 1))
+    pub sets-there : records_at (form_in s) (cores_in s) ≤ length s
+    sets-there = omega (arith, records_are (form_in s) (cores_in s), after-sets (form_in s) (cores_in s) (n + 1))

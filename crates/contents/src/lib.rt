@@ -5,14 +5,14 @@ ghost use Rattle.std.specs.Prelude.{◌≡◌, ◌+◌, ◌≤◌, length};
 ghost use Rattle.laws.specs.Idioms.{filled};
 ghost use Rattle.rules.specs.Tasks.{no_task};
 ghost use Rattle.rules.specs.Refusals.{check_board};
-ghost use Rattle.rules.specs.File.{recordsAt, recordAt, cores_in, form_in, first_tasks, decode};
+ghost use Rattle.rules.specs.File.{records_at, record_at, cores_in, form_in, first_tasks, decode};
 ghost use Rattle.contents.specs.Tasks.{tasks_to};
 
 use rules::{Refusal, Table, Task};
 
 // 5 to 8 and 16, of a file that reaches the end of its sets. Sets that have no room in a table are refused by their count before they are looked at.
 pub fn board(file: &[u8]) -> Refusal
-    requires { recordsAt (form_in file.now) (cores_in file.now) ≤ length file.now }
+    requires { records_at (form_in file.now) (cores_in file.now) ≤ length file.now }
     ensures { result ≡ check_board (decode file.now) }
 {
     if 8 < file[0] {
@@ -32,7 +32,7 @@ pub fn board(file: &[u8]) -> Refusal
 // The tasks of the first n records, and no task in the other places.
 fn tasks(file: &[u8], n: usize) -> [Task; 32]
     requires n_bound { n ≤ 32 }
-    requires n_in_bounds { recordAt (form_in file.now) (cores_in file.now) (n + 1) ≤ length file.now }
+    requires n_in_bounds { record_at (form_in file.now) (cores_in file.now) (n + 1) ≤ length file.now }
     ensures { result ≡ filled 32 no_task (tasks_to file.now n) }
 {
     let none = tasks::no_task();
@@ -49,7 +49,7 @@ fn tasks(file: &[u8], n: usize) -> [Task; 32]
 // The table of the first n records, with a fourth byte, of a file that reaches their end and has cores that have room in a table.
 pub fn table(file: &[u8], fourth: u8, n: u8) -> Table
     requires file_bound { (cores_in file.now ≤ 8) × (n ≤ 32) }
-    requires n_in_bounds { recordAt (form_in file.now) (cores_in file.now) (n + 1) ≤ length file.now }
+    requires n_in_bounds { record_at (form_in file.now) (cores_in file.now) (n + 1) ≤ length file.now }
     ensures { result ≡ first_tasks file.now fourth n }
 {
     let timing = fields::row_in(file);

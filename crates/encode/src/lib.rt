@@ -4,7 +4,7 @@
 ghost use Rattle.std.specs.Prelude.{◌≡◌, ◌+◌, ◌*◌, ◌≤◌, map, length, take};
 ghost use Rattle.std.proofs.lemmas.List.Edits.{sets};
 ghost use Rattle.laws.specs.Idioms.{joined, bytes_of};
-ghost use Rattle.rules.specs.File.{recordAt, body};
+ghost use Rattle.rules.specs.File.{record_at, body};
 ghost use Rattle.encode.specs.Counts.{counts};
 
 use rules::Table;
@@ -18,7 +18,7 @@ fn put_figures(out: &mut [u8], at: usize, figures: &[u16], n: usize)
 {
     let mut i: usize = 0;
     while i < n {
-        bytes::put(out, at + 2 * i, figures[i] as u64, 2);
+        lent_bytes::put(out, at + 2 * i, figures[i] as u64, 2);
         i += 1;
     }
 }
@@ -38,7 +38,7 @@ fn put_counts(out: &mut [u8], t: Table)
 pub fn put_body(out: &mut [u8], t: Table)
     requires cores_bound { t.cores ≤ 8 }
     requires tasks_bound { t.tasks ≤ 32 }
-    requires tasks_in_bounds { recordAt t.fourth t.cores (t.tasks + 1) ≤ length out.old }
+    requires tasks_in_bounds { record_at t.fourth t.cores (t.tasks + 1) ≤ length out.old }
     ensures { out.new ≡ sets out.old 0 (body t) }
 {
     put_counts(out, t);

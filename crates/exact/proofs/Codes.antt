@@ -22,8 +22,8 @@ use Rattle.plain.specs.Codes.{code_of, salvage_code}
 use Rattle.stored.specs.Stored.{check_outputs}
 use Rattle.recarry.specs.declared.CarryRefusal.{CarryRefusal}
 use Rattle.recarry.specs.Files.{table_number, check_files, faulty_file, check_carry, carry_refusal, carry_code, files_worsen}
-use Rattle.shown.specs.Shown.{task_count, recordPlace}
-use Rattle.shown.proofs.Shown.{tasks-there, record-there}
+use Rattle.shown.specs.Shown.{task_count, record_place}
+use Rattle.shown.proofs.Shown.{tasks-there, record_there}
 
 -- ryb_read, ryb_judge and ryb_view: nothing is refused
 pub zero_accepted : (r : Refusal) → code_of r ≡ 0 → is_accepted r ≡ true
@@ -90,11 +90,11 @@ zero_no_tasks s e = go (ℕ_discrete (check_file s).number 0)
     go (no refused) = ne_eqb _ _ refused
 
 -- ryb_record: the view is refused, as no record starts there
-pub zero_no_record : (s : List ℕ) (k : ℕ) → recordPlace s k ≡ 0 → is_accepted (check_view s k) ≡ false
+pub zero_no_record : (s : List ℕ) (k : ℕ) → record_place s k ≡ 0 → is_accepted (check_view s k) ≡ false
 zero_no_record s k e = go (ℕ_discrete (check_view s k).number 0)
   where
     go : Dec ((check_view s k).number ≡ 0) → is_accepted (check_view s k) ≡ false
-    go (yes passes) = absurd (omega (arith, record-there s k passes, after-sets (form_in s) (cores_in s) k, sets-limit (form_in s)))
+    go (yes passes) = absurd (omega (arith, record_there s k passes, after-sets (form_in s) (cores_in s) k, sets-limit (form_in s)))
     go (no refused) = ne_eqb _ _ refused
 
 -- ryb_list: the listing does not fit, as none is empty

@@ -31,7 +31,7 @@ use Rattle.recarry.specs.Files.{carry_refusal, carry_code, CarriedFiles, files_w
 use Rattle.salvaging.specs.Front.{Salvages}
 use Rattle.reasons.specs.Reasons.{reason_text}
 use Rattle.pieces.specs.Pieces.{piece_of}
-use Rattle.shown.specs.Shown.{task_count, recordPlace}
+use Rattle.shown.specs.Shown.{task_count, record_place}
 use Rattle.receipt.specs.Status.{receipt_status}
 use Rattle.status.specs.Status.{file_status}
 
@@ -100,7 +100,7 @@ pub record Promises : Type 0 where
   pub reason : (number : ℕ) (out : List ℕ) → Exact (λ (r : ℕ × List ℕ). Given (reason_text number) out r.0 r.1)
   -- shown
   pub task-count : (s : List ℕ) → Exact (λ (r : ℕ). r ≡ task_count s)
-  pub record-place : (s : List ℕ) (k : ℕ) → Exact (λ (r : ℕ). r ≡ recordPlace s k)
+  pub record-place : (s : List ℕ) (k : ℕ) → Exact (λ (r : ℕ). r ≡ record_place s k)
   -- the C interface
   pub ryb_read : (s : List ℕ) → Exact (λ (r : ℕ). r ≡ code_of (check_file s))
   pub ryb_whole : (s : List ℕ) → Exact (λ (r : ℕ). r ≡ code_of (check_whole s))
@@ -109,7 +109,7 @@ pub record Promises : Type 0 where
       → Exact (λ (r : ℕ × List ℕ × List ℕ × List ℕ). (r.0 ≡ code_of (check_judged_file s starts bounds rounds by)) × JudgedFile s starts bounds rounds by r.1 r.2 r.3)
   pub ryb_list : (s out : List ℕ) → Exact (λ (r : ℕ × List ℕ). Given (listing s) out r.0 r.1)
   pub ryb_view : (s : List ℕ) (k : ℕ) → Exact (λ (r : ℕ). r ≡ code_of (check_view s k))
-  pub ryb_record : (s : List ℕ) (k : ℕ) → Exact (λ (r : ℕ). r ≡ recordPlace s k)
+  pub ryb_record : (s : List ℕ) (k : ℕ) → Exact (λ (r : ℕ). r ≡ record_place s k)
   pub ryb_carry : (older newer bounds rounds by : List ℕ)
       → Exact (λ (r : ℕ × List ℕ × List ℕ × List ℕ). (r.0 ≡ carry_code (carry_refusal older newer bounds rounds by)) × CarriedFiles older newer bounds rounds by r.1 r.2 r.3)
   pub ryb_worsens : (older newer : List ℕ) → Exact (λ (r : ℕ). r ≡ cond (files_worsen older newer) 1 0)

@@ -1,6 +1,6 @@
 -- What one request of core q costs a job of core p: JD is linear in each core's arrivals. Assumes nothing.
 use mathlib.Core.Path.{◌≡◌, refl, ap, fun_ext, ◌∙◌}
-use mathlib.Core.Bool.{Bool, true, false, not, and_comm, and_false}
+use mathlib.Core.Bool.{Bool, true, false, not, and_comm, and-false}
 use mathlib.Core.List.{List, Memᴰ}
 use Prim.Native.Nat.{ℕ, ◌+◌, ◌*◌}
 use native.Mathlib.Omega.{arith}
@@ -83,7 +83,7 @@ module _ (t : Table) where
       share_comm (set_of t r) (set_of t p) ∙ (and_both (not (eqb r p)) (share (set_of t p) (set_of t r)) (member_those (is_near t p) (up_to t.cores) m).1).1
 
   near_not_far : (p r : ℕ) → Memᴰ r (near t p) → is_far t r p ≡ false
-  near_not_far p r m = rw (near_shares p r m) (and_false (not (eqb p r)))
+  near_not_far p r m = rw (near_shares p r m) (and-false (not (eqb p r)))
 
   pub weight_self : (p : ℕ) → weight t p p ≡ 0
   unfolding weight

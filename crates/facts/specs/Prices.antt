@@ -6,7 +6,7 @@ use Rattle.rules.specs.Tasks.{arrivals}
 use Rattle.rules.specs.Cores.{is_near, is_far, near}
 use Rattle.rules.specs.Kinds.{is_bus}
 use Rattle.rules.specs.Dram.{crossing, conflict, RD}
-use Rattle.rules.specs.Bus.{slot, busRD}
+use Rattle.rules.specs.Bus.{slot, bus_RD}
 use Rattle.rules.specs.Board.{Memory}
 
 -- for one core: what one of its requests costs, and what one request of core q costs one of its jobs
@@ -40,7 +40,7 @@ abbrev pub if_other : Table → ℕ → ℕ → ℕ
 if_other t p q = cond (not (eqb q p)) (slot t).0 0
 
 unfoldable pub bus_prices : Table → ℕ → Prices
-bus_prices t p = record { per_request = busRD t; per_core = if_other t p }
+bus_prices t p = record { per_request = bus_RD t; per_core = if_other t p }
 
 -- the prices that core p of a table sees. They make what `memory_of` says (proofs/Boards.antt)
 unfoldable pub prices_of : Table → ℕ → Prices

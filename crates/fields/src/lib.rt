@@ -4,7 +4,7 @@
 ghost use Rattle.std.specs.Prelude.{◌≡◌, ◌+◌, ◌*◌, ◌≤◌, ◌<◌, length};
 ghost use Rattle.std.proofs.lemmas.List.Edits.{sets};
 ghost use Rattle.rules.specs.Tasks.{task_of};
-ghost use Rattle.rules.specs.File.{recordsAt, recordSize, recordAt, recordTask, recordIn, cores_in, tasks_in, form_in, decode};
+ghost use Rattle.rules.specs.File.{records_at, record_size, record_at, record_task, record_in, cores_in, tasks_in, form_in, decode};
 ghost use Rattle.fields.specs.Places.{Sized, figures_in, sets_of};
 
 use rules::{Picos, Task};
@@ -12,8 +12,8 @@ use rules::{Picos, Task};
 // The record in place i, as a part of the file.
 pub fn record_in<'a>(file: &'a [u8], i: usize) -> &'a [u8]
     requires i_bound { i ≤ 255 }
-    requires file_in_bounds { recordAt (form_in file.now) (cores_in file.now) (i + 1) + recordSize (form_in file.now) ≤ length file.now }
-    ensures { result.now ≡ recordIn file.now (i + 1) }
+    requires file_in_bounds { record_at (form_in file.now) (cores_in file.now) (i + 1) + record_size (form_in file.now) ≤ length file.now }
+    ensures { result.now ≡ record_in file.now (i + 1) }
 {
     let form = file[3];
     let a = places::record_at(form, file[0], i);
@@ -24,25 +24,25 @@ pub fn record_in<'a>(file: &'a [u8], i: usize) -> &'a [u8]
 // The task of a record.
 fn task_in(part: &[u8]) -> Task
     requires { 29 ≤ length part.now }
-    ensures { result ≡ recordTask part.now }
+    ensures { result ≡ record_task part.now }
 {
-    let exec = bytes::le64(part, 1);
-    let period = bytes::le64(part, 9);
-    let deadline = bytes::le64(part, 17);
+    let exec = lent_bytes::le64(part, 1);
+    let period = lent_bytes::le64(part, 9);
+    let deadline = lent_bytes::le64(part, 17);
     Task {
         core: part[0],
         exec: Picos(exec),
         period: Picos(period),
         deadline: Picos(deadline),
-        requests: bytes::le32(part, 25),
+        requests: lent_bytes::le32(part, 25),
     }
 }
 
 // The task of the record in place i.
 pub fn record_task(file: &[u8], i: usize) -> Task
     requires i_bound { i ≤ 255 }
-    requires file_in_bounds { recordAt (form_in file.now) (cores_in file.now) (i + 1) + recordSize (form_in file.now) ≤ length file.now }
-    ensures { result ≡ recordTask (recordIn file.now (i + 1)) }
+    requires file_in_bounds { record_at (form_in file.now) (cores_in file.now) (i + 1) + record_size (form_in file.now) ≤ length file.now }
+    ensures { result ≡ record_task (record_in file.now (i + 1)) }
 {
     task_in(record_in(file, i))
 }
@@ -65,7 +65,7 @@ fn figures(file: &[u8], at: usize, n: usize, into: &mut [u16])
 {
     let mut i: usize = 0;
     while i < n {
-        into[i] = bytes::le16(file, at + 2 * i);
+        into[i] = lent_bytes::le16(file, at + 2 * i);
         i += 1;
     }
 }
@@ -83,7 +83,7 @@ pub fn row_in(file: &[u8]) -> [u16; 15]
 // The sets of the cores, which have room in a table.
 pub fn sets_in(file: &[u8]) -> [u16; 8]
     requires file_bound { cores_in file.now ≤ 8 }
-    requires file_in_bounds { recordsAt (form_in file.now) (cores_in file.now) ≤ length file.now }
+    requires file_in_bounds { records_at (form_in file.now) (cores_in file.now) ≤ length file.now }
     ensures { result ≡ sets_of file.now }
 {
     let mut sets = [0u16; 8];

@@ -8,7 +8,7 @@ use lib.ListN.{length, take}
 use lib.Seq.{take-add}
 use Rattle.rules.specs.declared.Task.{Task}
 use Rattle.rules.specs.Tasks.{no_task}
-use Rattle.rules.specs.File.{sets_at, recordsAt, recordSize, recordBytes, recordTask, body, encode, cores_in, partitions_in, tasks_in, form_in, recordIn, first_tasks, decode}
+use Rattle.rules.specs.File.{sets_at, records_at, record_size, record_bytes, record_task, body, encode, cores_in, partitions_in, tasks_in, form_in, record_in, first_tasks, decode}
 use Rattle.facts.proofs.Accepted.{sound}
 use Rattle.laws.specs.Idioms.{from, filled, number_in, part}
 use Rattle.laws.specs.Bytes.{Bytes}
@@ -19,14 +19,14 @@ use Rattle.laws.proofs.Rows.{written_back}
 use Rattle.file_claims.proofs.Codes.{number_code, task_code}
 use Rattle.facts.proofs.Came.{Whole}
 use Rattle.file_claims.proofs.Whole.{before, before_and_trailer}
-use Rattle.file_claims.proofs.Places.{header, figure_bytes, set_bytes, task_bytes, body-parts, figure_ladder, set_ladder, record-ladder, sets-after-figures, records-after-sets, trailer-after_records, parts-joined}
+use Rattle.file_claims.proofs.Places.{header, figure_bytes, set_bytes, task_bytes, body-parts, figure_ladder, set_ladder, record_ladder, sets-after-figures, records-after-sets, trailer-after_records, parts-joined}
 
 module _ (s : List ℕ) where
   set_in : ℕ → ℕ
   set_in k = number_in (part s (sets_at (form_in s) + 2 * k) 2)
 
   task_in : ℕ → Task
-  task_in k = recordTask (recordIn s k)
+  task_in k = record_task (record_in s k)
 
 -- ---- the table of the first n records
 
@@ -52,8 +52,8 @@ module _ (s : List ℕ) (fourth n : ℕ) where
   }
 
 -- its bytes, where its fourth byte gives records as the file's does, and the file reaches past them
-module _ {s : List ℕ} (b : Bytes s) (fourth n : ℕ) (same : recordBytes fourth ≡ recordBytes (form_in s))
-    (reach : recordsAt (form_in s) (cores_in s) + recordSize (form_in s) * n ≤ length s) where
+module _ {s : List ℕ} (b : Bytes s) (fourth n : ℕ) (same : record_bytes fourth ≡ record_bytes (form_in s))
+    (reach : records_at (form_in s) (cores_in s) + record_size (form_in s) * n ≤ length s) where
   figures-read : figure_bytes (first_tasks s fourth n) ≡ part s 4 30
   unfolding figure_bytes
   figures-read =
@@ -66,16 +66,16 @@ module _ {s : List ℕ} (b : Bytes s) (fourth n : ℕ) (same : recordBytes fourt
       rw (take-filled 8 0 (set_in s) 0 (cores_in s))
       (written_back (number_code 2) s (set_ladder (form_in s)) (cores_in s) b (omega (arith, records-after-sets (form_in s) (cores_in s))))
 
-  tasks-read : task_bytes (first_tasks s fourth n) ≡ part s (recordsAt (form_in s) (cores_in s)) (recordSize (form_in s) * n)
-  unfolding task_bytes task_in recordIn
+  tasks-read : task_bytes (first_tasks s fourth n) ≡ part s (records_at (form_in s) (cores_in s)) (record_size (form_in s) * n)
+  unfolding task_bytes task_in record_in
   tasks-read =
       rw (same, take-filled 32 no_task (task_in s) 1 n)
-      (written_back (task_code (form_in s)) s (record-ladder (form_in s) (cores_in s)) n b reach)
+      (written_back (task_code (form_in s)) s (record_ladder (form_in s) (cores_in s)) n b reach)
 
-  pub body-read : body (first_tasks s fourth n) ≡ header (first_tasks s fourth n) ++ part s 4 (recordsAt (form_in s) (cores_in s) + recordSize (form_in s) * n - 4)
+  pub body-read : body (first_tasks s fourth n) ≡ header (first_tasks s fourth n) ++ part s 4 (records_at (form_in s) (cores_in s) + record_size (form_in s) * n - 4)
   body-read =
       rw (body-parts (first_tasks s fourth n), figures-read, sets-read, tasks-read)
-      (parts-joined (form_in s) (cores_in s) (recordSize (form_in s) * n) s (header (first_tasks s fourth n)))
+      (parts-joined (form_in s) (cores_in s) (record_size (form_in s) * n) s (header (first_tasks s fourth n)))
 
 -- ---- and of a whole file
 
@@ -87,7 +87,7 @@ header-bytes (a ∷ b ∷ c ∷ []) h = absurd (omega arith)
 header-bytes (a ∷ b ∷ c ∷ d ∷ l) h = refl
 
 module _ {s : List ℕ} (b : Bytes s) (w : Whole s) where
-  size : length s ≡ recordsAt (form_in s) (cores_in s) + recordSize (form_in s) * tasks_in s + 12
+  size : length s ≡ records_at (form_in s) (cores_in s) + record_size (form_in s) * tasks_in s + 12
   size = rw (← trailer-after_records (form_in s) (cores_in s) (tasks_in s)) w.sized
 
   header_read : header (decode s) ≡ take 4 s
@@ -97,7 +97,7 @@ module _ {s : List ℕ} (b : Bytes s) (w : Whole s) where
   whole-body : body (decode s) ≡ before s
   unfolding decode
   whole-body =
-      let end = recordsAt (form_in s) (cores_in s) + recordSize (form_in s) * tasks_in s in
+      let end = records_at (form_in s) (cores_in s) + record_size (form_in s) * tasks_in s in
       let e : length s - 12 ≡ 4 + (end - 4) = omega (arith, size, w.long) in
       body-read b (form_in s) (tasks_in s) refl (omega (arith, size)) ∙ rw (header_read, e, take-add 4 (end - 4) s)
 

@@ -7,7 +7,7 @@ use lib.ListN.{length, take, drop, length-append}
 use lib.Seq.{take_all, drop_at, drop-drop}
 use Rattle.rules.specs.declared.Table.{Table}
 use Rattle.rules.specs.Tasks.{no_task, tasks_of}
-use Rattle.rules.specs.File.{sets_at, recordsAt, recordSize, recordAt, file_length, recordBytes, recordTask, trailer, body, encode, recordIn, decode}
+use Rattle.rules.specs.File.{sets_at, records_at, record_size, record_at, file_length, record_bytes, record_task, trailer, body, encode, record_in, decode}
 use Rattle.facts.proofs.Accepted.{sound}
 use Rattle.facts.proofs.SoundTasks.{tasks-there}
 use Rattle.laws.specs.Idioms.{below, up_to, filled, number_in, bytes_of, part}
@@ -17,10 +17,10 @@ use Rattle.file_claims.specs.Files.{AcceptedTable, Shape, cleared}
 use Rattle.laws.proofs.ByteLists.{bytes-append, bytes-joined}
 use Rattle.laws.proofs.Rows.{read_back}
 use Rattle.laws.proofs.Runs.{joined-take}
-use Rattle.file_claims.proofs.Codes.{number_code, task_code, record-bytes, task_known}
+use Rattle.file_claims.proofs.Codes.{number_code, task_code, record_bytes_lem, task_known}
 use Rattle.facts.proofs.Came.{Whole}
 use Rattle.file_claims.proofs.Whole.{trailer-length, trailed-whole}
-use Rattle.file_claims.proofs.Places.{header, figure_bytes, set_bytes, task_bytes, body-parts, encode-parts, figure_ladder, set_ladder, record-ladder, sets-after-figures, records-after-sets, trailer-after_records}
+use Rattle.file_claims.proofs.Places.{header, figure_bytes, set_bytes, task_bytes, body-parts, encode-parts, figure_ladder, set_ladder, record_ladder, sets-after-figures, records-after-sets, trailer-after_records}
 use Rattle.file_claims.proofs.Widths.{figure-fits, set-fits, task-fits}
 
 module _ {t : Table} (shape : Shape t) (passed : AcceptedTable t) where
@@ -44,11 +44,11 @@ module _ {t : Table} (shape : Shape t) (passed : AcceptedTable t) where
   unfolding set_bytes
   sets-length = joined-take (bytes_of 2) 2 (bytes-length 2) t.sets t.cores sets_fit
 
-  tasks-length : length (task_bytes t) ≡ recordSize t.fourth * t.tasks
+  tasks-length : length (task_bytes t) ≡ record_size t.fourth * t.tasks
   unfolding task_bytes
-  tasks-length = joined-take (recordBytes t.fourth) (recordSize t.fourth) (task_code t.fourth).sized t.task t.tasks (tasks-there t (sound t passed))
+  tasks-length = joined-take (record_bytes t.fourth) (record_size t.fourth) (task_code t.fourth).sized t.task t.tasks (tasks-there t (sound t passed))
 
-  body-length : length (body t) ≡ recordsAt t.fourth t.cores + recordSize t.fourth * t.tasks
+  body-length : length (body t) ≡ records_at t.fourth t.cores + record_size t.fourth * t.tasks
   body-length =
       simp (body-parts, length-append, header-length, figures-length, sets-length, tasks-length, records-after-sets, sets-after-figures)
 
@@ -59,7 +59,7 @@ module _ {t : Table} (shape : Shape t) (passed : AcceptedTable t) where
   -- ---- it is whole
 
   body-small : length (body t) ≤ 978
-  unfolding recordsAt sets_at recordSize
+  unfolding records_at sets_at record_size
   body-small = omega (arith, body-length, (sound t passed).cores-in, (sound t passed).tasks-in)
 
   header_are : Bytes (header t)
@@ -77,7 +77,7 @@ module _ {t : Table} (shape : Shape t) (passed : AcceptedTable t) where
       rw body-parts
       (bytes-append
       (bytes-append (bytes-append header_are (bytes-joined (bytes_of 2) (bytes_are 2) t.timing)) (bytes-joined (bytes_of 2) (bytes_are 2) (take t.cores t.sets)))
-      (bytes-joined (recordBytes t.fourth) (record-bytes t.fourth) (tasks_of t)))
+      (bytes-joined (record_bytes t.fourth) (record_bytes_lem t.fourth) (tasks_of t)))
 
   pub file_small : length (encode t) ≤ 990
   unfolding encode
@@ -98,7 +98,7 @@ module _ {t : Table} (shape : Shape t) (passed : AcceptedTable t) where
   after-figures : drop (sets_at t.fourth) (encode t) ≡ set_bytes t ++ (task_bytes t ++ trailer (body t))
   after-figures = rw (sets-after-figures t.fourth, ← drop-drop 30 4 (encode t), after-header) (drop_at (figure_bytes t) _ 30 figures-length)
 
-  after-sets : drop (recordsAt t.fourth t.cores) (encode t) ≡ task_bytes t ++ trailer (body t)
+  after-sets : drop (records_at t.fourth t.cores) (encode t) ≡ task_bytes t ++ trailer (body t)
   after-sets =
       rw (records-after-sets t.fourth t.cores, ← drop-drop (2 * t.cores) (sets_at t.fourth) (encode t), after-figures)
       (drop_at (set_bytes t) _ (2 * t.cores) sets-length)
@@ -119,14 +119,14 @@ module _ {t : Table} (shape : Shape t) (passed : AcceptedTable t) where
       read_back (number_code 2) (encode t) (set_ladder t.fourth) 0 t.cores t.sets _ sets_fit after-figures
       (λ k less. number-bytes 2 _ (set-fits t passed k less))
 
-  tasks-back : map (λ k. recordTask (part (encode t) (recordAt t.fourth t.cores k) (recordSize t.fourth))) (up_to t.tasks) ≡ tasks_of t
+  tasks-back : map (λ k. record_task (part (encode t) (record_at t.fourth t.cores k) (record_size t.fourth))) (up_to t.tasks) ≡ tasks_of t
   unfolding task_bytes
   tasks-back =
-      read_back (task_code t.fourth) (encode t) (record-ladder t.fourth t.cores) no_task t.tasks t.task _ (tasks-there t (sound t passed)) after-sets
+      read_back (task_code t.fourth) (encode t) (record_ladder t.fourth t.cores) no_task t.tasks t.task _ (tasks-there t (sound t passed)) after-sets
       (λ k less. task_known t.fourth _ (task-fits t passed k less))
 
   pub read_again : decode (encode t) ≡ cleared t
-  unfolding decode recordIn encode body cleared
+  unfolding decode record_in encode body cleared
   read_again = λ j. record {
     cores = t.cores;
     partitions = t.partitions;

@@ -7,7 +7,7 @@ use lib.ListN.{take}
 use Rattle.rules.specs.declared.Table.{Table}
 use Rattle.laws.specs.Idioms.{joined, bytes_of, part}
 use Rattle.rules.specs.Tasks.{tasks_of}
-use Rattle.rules.specs.File.{sets_at, recordsAt, recordSize, recordAt, file_length, recordBytes, trailer, body, encode}
+use Rattle.rules.specs.File.{sets_at, records_at, record_size, record_at, file_length, record_bytes, trailer, body, encode}
 use Rattle.laws.proofs.ByteLists.{part_join}
 use Rattle.laws.proofs.Rows.{Ladder}
 
@@ -21,7 +21,7 @@ unfoldable pub set_bytes : Table → List ℕ
 set_bytes t = joined (map (bytes_of 2) (take t.cores t.sets))
 
 unfoldable pub task_bytes : Table → List ℕ
-task_bytes t = joined (map (recordBytes t.fourth) (tasks_of t))
+task_bytes t = joined (map (record_bytes t.fourth) (tasks_of t))
 
 pub body-parts : (t : Table) → body t ≡ header t ++ figure_bytes t ++ set_bytes t ++ task_bytes t
 unfolding body header figure_bytes set_bytes task_bytes
@@ -46,25 +46,25 @@ sets-after-figures form = refl
 pub set_ladder : (form : ℕ) → Ladder 2 (sets_at form) 0 (λ k. sets_at form + 2 * k)
 set_ladder form = record { starts = omega arith; steps = λ k low. omega arith }
 
-pub records-after-sets : (form cores : ℕ) → recordsAt form cores ≡ sets_at form + 2 * cores
-unfolding recordsAt
+pub records-after-sets : (form cores : ℕ) → records_at form cores ≡ sets_at form + 2 * cores
+unfolding records_at
 records-after-sets form cores = refl
 
-pub record-ladder : (form cores : ℕ) → Ladder (recordSize form) (recordsAt form cores) 1 (recordAt form cores)
-unfolding recordAt
-record-ladder form cores = record {
+pub record_ladder : (form cores : ℕ) → Ladder (record_size form) (records_at form cores) 1 (record_at form cores)
+unfolding record_at
+record_ladder form cores = record {
   starts = omega arith;
   steps = λ k low. let e : k + 1 - 1 ≡ suc (k - 1) = omega arith in rw e (omega arith);
 }
 
-pub trailer-after_records : (form cores tasks : ℕ) → file_length form cores tasks ≡ recordsAt form cores + recordSize form * tasks + 12
+pub trailer-after_records : (form cores tasks : ℕ) → file_length form cores tasks ≡ records_at form cores + record_size form * tasks + 12
 unfolding file_length
 trailer-after_records form cores tasks = refl
 
 -- the parts of a file behind its header, one after the other
 pub parts-joined : (form cores n : ℕ) (s l : List ℕ)
-    → l ++ part s 4 30 ++ part s (sets_at form) (2 * cores) ++ part s (recordsAt form cores) n ≡ l ++ part s 4 (recordsAt form cores + n - 4)
-unfolding recordsAt sets_at
+    → l ++ part s 4 30 ++ part s (sets_at form) (2 * cores) ++ part s (records_at form cores) n ≡ l ++ part s 4 (records_at form cores + n - 4)
+unfolding records_at sets_at
 parts-joined form cores n s l =
     let e : 34 + 2 * cores + n - 4 ≡ 30 + (2 * cores + n) = omega arith in
     rw (e, ← part_join s 4 30 (2 * cores + n), ← part_join s 34 (2 * cores) n) (simp append_assoc)

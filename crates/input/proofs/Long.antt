@@ -10,7 +10,7 @@ use lib.ListN.{length, take, get_or}
 use lib.Seq.{get_or-take, length-take-le, take_all}
 use borrow.Author.Tests.{le-ltb, ltb-true, ltb-false, ne_eqb}
 use Rattle.rules.specs.Chain.{refused, is_accepted}
-use Rattle.rules.specs.File.{sets_at, recordsAt, recordSize, file_length, cores_in, tasks_in, form_in, check_whole}
+use Rattle.rules.specs.File.{sets_at, records_at, record_size, file_length, cores_in, tasks_in, form_in, check_whole}
 use Rattle.rules.specs.Operations.{empty_table, reading, check_file, check_to_judge, read_to_judge}
 use Rattle.rules.specs.Listing.{listing}
 use Rattle.rules.specs.Salvage.{salvaging, salvaged_out}
@@ -19,7 +19,7 @@ use Rattle.input.proofs.Salvaged.{same-salvage}
 
 -- 46 + 2·255 + 29·255 is 7,951
 file_length_lem : (form cores tasks : ℕ) → cores < 256 → tasks < 256 → file_length form cores tasks < 7952
-unfolding file_length recordsAt recordSize sets_at
+unfolding file_length records_at record_size sets_at
 file_length_lem form cores tasks c t = omega arith
 
 -- more bytes than that are refused by 2 (RULES 7.5)

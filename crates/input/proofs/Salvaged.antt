@@ -9,13 +9,13 @@ use borrow.Author.Tests.{le-ltb, le-leb}
 use Rattle.rules.specs.Tasks.{no_task}
 use Rattle.rules.specs.Kinds.{marked}
 use Rattle.rules.specs.Chain.{is_accepted}
-use Rattle.rules.specs.File.{sets_at, recordsAt, recordSize, recordAt, recordTask, recordIn, cores_in, tasks_in, form_in, decode}
+use Rattle.rules.specs.File.{sets_at, records_at, record_size, record_at, record_task, record_in, cores_in, tasks_in, form_in, decode}
 use Rattle.rules.specs.Operations.{check_file}
 use Rattle.rules.specs.Salvage.{ends_early, reaches, is_sound, leading, kept, stopped, salvaged_table, check_salvage, salvaging, salvaged_out}
 use Rattle.laws.specs.Idioms.{filled}
 use Rattle.kept.proofs.Parts.{row-agree}
 use Rattle.kept.proofs.Kept.{kept-most}
-use Rattle.kept.proofs.CutParts.{cut-length, cores-cut, partitions-cut, tasks-cut, form-cut, record-cut, figures-cut, sets-cut, board-cut}
+use Rattle.kept.proofs.CutParts.{cut-length, cores-cut, partitions-cut, tasks-cut, form-cut, record_cut, figures-cut, sets-cut, board-cut}
 
 -- two tests that agree let as many pass
 leading-same : {f g : ℕ → Bool} (k m : ℕ) → ((i : ℕ) → k ≤ i → i < k + m → f i ≡ g i) → leading f k m ≡ leading g k m
@@ -26,28 +26,28 @@ leading-same k (suc m) same =
 
 module _ (s : List ℕ) (n : ℕ) (within : n ≤ length s) (enough : 7952 ≤ n) (cores : cores_in s < 256) (tasks : tasks_in s < 256) where
   -- the sets and every record that is promised stand in the first bytes
-  sets-there : recordsAt (form_in s) (cores_in s) ≤ n
-  unfolding recordsAt sets_at
+  sets-there : records_at (form_in s) (cores_in s) ≤ n
+  unfolding records_at sets_at
   sets-there = omega arith
 
-  record-there : (k : ℕ) → k ≤ tasks_in s → recordAt (form_in s) (cores_in s) k + recordSize (form_in s) ≤ n
-  unfolding recordAt recordsAt sets_at recordSize
-  record-there k high = omega arith
+  record_there : (k : ℕ) → k ≤ tasks_in s → record_at (form_in s) (cores_in s) k + record_size (form_in s) ≤ n
+  unfolding record_at records_at sets_at record_size
+  record_there k high = omega arith
 
-  same_record : (k : ℕ) → k ≤ tasks_in s → recordIn (take n s) k ≡ recordIn s k
-  same_record k high = record-cut s n within sets-there k (record-there k high)
+  same_record : (k : ℕ) → k ≤ tasks_in s → record_in (take n s) k ≡ record_in s k
+  same_record k high = record_cut s n within sets-there k (record_there k high)
 
   same-sound : (k : ℕ) → k ≤ tasks_in s → is_sound (take n s) k ≡ is_sound s k
   unfolding is_sound reaches
   same-sound k high =
-      let h = record-there k high in
+      let h = record_there k high in
       rw (
         form-cut s n within sets-there,
         cores-cut s n within sets-there,
         cut-length s n within sets-there,
         same_record k high,
-        le-leb (recordAt (form_in s) (cores_in s) k + recordSize (form_in s)) n h,
-        le-leb (recordAt (form_in s) (cores_in s) k + recordSize (form_in s)) (length s) (omega arith),
+        le-leb (record_at (form_in s) (cores_in s) k + record_size (form_in s)) n h,
+        le-leb (record_at (form_in s) (cores_in s) k + record_size (form_in s)) (length s) (omega arith),
       )
 
   same_kept : kept (take n s) ≡ kept s
@@ -62,7 +62,7 @@ module _ (s : List ℕ) (n : ℕ) (within : n ≤ length s) (enough : 7952 ≤ n
   unfolding salvaged_table
   same-tasks =
       rw same_kept
-      (ap (filled 32 no_task) (row-agree 1 (kept s) (λ k less. ap recordTask (same_record k (omega (arith, kept-most s))))))
+      (ap (filled 32 no_task) (row-agree 1 (kept s) (λ k less. ap record_task (same_record k (omega (arith, kept-most s))))))
 
   same-table : salvaged_table (take n s) ≡ salvaged_table s
   unfolding salvaged_table decode
@@ -79,11 +79,11 @@ module _ (s : List ℕ) (n : ℕ) (within : n ≤ length s) (enough : 7952 ≤ n
   module _ (first : is_accepted (check_file (take n s)) ≡ false) (whole : is_accepted (check_file s) ≡ false) (out : List ℕ) where
     late : ends_early s ≡ false
     unfolding ends_early
-    late = le-ltb (length s) (recordsAt (form_in s) (cores_in s)) (omega (arith, sets-there))
+    late = le-ltb (length s) (records_at (form_in s) (cores_in s)) (omega (arith, sets-there))
 
     late-first : ends_early (take n s) ≡ false
     unfolding ends_early
-    late-first = rw (form-cut s n within sets-there, cores-cut s n within sets-there, cut-length s n within sets-there) (le-ltb n (recordsAt (form_in s) (cores_in s)) sets-there)
+    late-first = rw (form-cut s n within sets-there, cores-cut s n within sets-there, cut-length s n within sets-there) (le-ltb n (records_at (form_in s) (cores_in s)) sets-there)
 
     same_check : check_salvage (take n s) out ≡ check_salvage s out
     unfolding check_salvage

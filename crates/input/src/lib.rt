@@ -10,7 +10,7 @@ fn front_of(s: &[u8], n: usize) -> &[u8]
     ensures result_value { result.now ≡ take n s.now }
     ensures by_index { (whole : List ℕ) → take (length s.now) whole ≡ result.now → StandsFor whole result.now }
 {
-    bytes::front(s, n)
+    lent_bytes::front(s, n)
 }
 
 // The first n bytes of the array, or all where n is larger. They stand for every input of which they are the first bytes, as many as the array

@@ -7,11 +7,11 @@ use lib.ListN.{length, take, get_or}
 use lib.Seq.{length-take-le, take-take, get_or-take}
 use Rattle.laws.specs.Idioms.{filled, number_in, part}
 use Rattle.rules.specs.Refusals.{check_board}
-use Rattle.rules.specs.File.{sets_at, recordsAt, recordSize, recordAt, recordIn, cores_in, partitions_in, tasks_in, form_in, decode}
-use Rattle.places.proofs.Places.{records-are, records-limit}
+use Rattle.rules.specs.File.{sets_at, records_at, record_size, record_at, record_in, cores_in, partitions_in, tasks_in, form_in, decode}
+use Rattle.places.proofs.Places.{records_are, records-limit}
 use Rattle.kept.proofs.Parts.{parts-agree, row-agree}
 
-module _ (s : List ℕ) (n : ℕ) (within : n ≤ length s) (reaches : recordsAt (form_in s) (cores_in s) ≤ n) where
+module _ (s : List ℕ) (n : ℕ) (within : n ≤ length s) (reaches : records_at (form_in s) (cores_in s) ≤ n) where
   pub cut-length : length (take n s) ≡ n
   cut-length = length-take-le n s within
 
@@ -33,9 +33,9 @@ module _ (s : List ℕ) (n : ℕ) (within : n ≤ length s) (reaches : recordsAt
   part_cut : (at k : ℕ) → at + k ≤ n → part (take n s) at k ≡ part s at k
   part_cut at k h = parts-agree (take n s) s 0 n (take-take n n s (omega arith)) at k (omega arith) (omega arith)
 
-  pub record-cut : (k : ℕ) → recordAt (form_in s) (cores_in s) k + recordSize (form_in s) ≤ n → recordIn (take n s) k ≡ recordIn s k
-  unfolding recordIn
-  record-cut k h = rw (form-cut, cores-cut) (part_cut (recordAt (form_in s) (cores_in s) k) (recordSize (form_in s)) h)
+  pub record_cut : (k : ℕ) → record_at (form_in s) (cores_in s) k + record_size (form_in s) ≤ n → record_in (take n s) k ≡ record_in s k
+  unfolding record_in
+  record_cut k h = rw (form-cut, cores-cut) (part_cut (record_at (form_in s) (cores_in s) k) (record_size (form_in s)) h)
 
   pub figures-cut : (decode (take n s)).timing ≡ (decode s).timing
   unfolding decode
@@ -49,7 +49,7 @@ module _ (s : List ℕ) (n : ℕ) (within : n ≤ length s) (reaches : recordsAt
       rw (form-cut, cores-cut)
       (ap (filled 8 0)
       (row-agree 0 (cores_in s)
-      (λ k less. ap number_in (part_cut (sets_at (form_in s) + 2 * k) 2 (omega (arith, records-are (form_in s) (cores_in s)))))))
+      (λ k less. ap number_in (part_cut (sets_at (form_in s) + 2 * k) 2 (omega (arith, records_are (form_in s) (cores_in s)))))))
 
   pub board-cut : check_board (decode (take n s)) ≡ check_board (decode s)
   unfolding check_board decode

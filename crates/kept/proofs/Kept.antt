@@ -14,7 +14,7 @@ use Rattle.rules.specs.Tasks.{no_task, task_of}
 use Rattle.rules.specs.Kinds.{marked, fourth_allowed}
 use Rattle.rules.specs.Chain.{accepted, is_accepted, first}
 use Rattle.rules.specs.Refusals.{counts_fault, check_row, core_fault, time_fault, request_fault, board_refusal, tasks_refusal, check_board, check_tasks, check_table}
-use Rattle.rules.specs.File.{recordsAt, recordSize, recordAt, recordTask, recordIn, cores_in, partitions_in, tasks_in, form_in, decode}
+use Rattle.rules.specs.File.{records_at, record_size, record_at, record_task, record_in, cores_in, partitions_in, tasks_in, form_in, decode}
 use Rattle.rules.specs.Salvage.{ends_early, reaches, task_fault, is_sound, kept, salvaged_table}
 use Rattle.places.proofs.Places.{record-place}
 use Rattle.facts.proofs.Accepted.{counts, row-passed, sets-passed}
@@ -40,14 +40,14 @@ module _ (s : List ℕ) where
   -- ---- a kept record
 
   abbrev task : ℕ → Task
-  task k = recordTask (recordIn s k)
+  task k = record_task (record_in s k)
 
   module _ (k : ℕ) (low : 1 ≤ k) (high : k ≤ kept s) where
     parts : (reaches s k ≡ true) × (not (task_fault (cores_in s) (task k)) ≡ true)
     unfolding is_sound
     parts = and_both _ _ (kept-sound k low high)
 
-    pub kept_whole : recordAt (form_in s) (cores_in s) k + recordSize (form_in s) ≤ length s
+    pub kept_whole : record_at (form_in s) (cores_in s) k + record_size (form_in s) ≤ length s
     unfolding reaches
     kept_whole = leb-true _ _ parts.0
 
@@ -72,12 +72,12 @@ module _ (s : List ℕ) where
   clear n fault none = first-none n _ (kept s) (λ k low high. rw (kept-task k low high) (none k low high))
 
   -- where the kept records end
-  pub kept_reach : ends_early s ≡ false → recordAt (form_in s) (cores_in s) (kept s + 1) ≤ length s
+  pub kept_reach : ends_early s ≡ false → record_at (form_in s) (cores_in s) (kept s + 1) ≤ length s
   unfolding ends_early
   kept_reach enough = go (kept s) refl
     where
-      go : (n : ℕ) → kept s ≡ n → recordAt (form_in s) (cores_in s) (n + 1) ≤ length s
-      go zero e = omega (arith, ltb-false (length s) (recordsAt (form_in s) (cores_in s)) enough, record-place (form_in s) (cores_in s) 0)
+      go : (n : ℕ) → kept s ≡ n → record_at (form_in s) (cores_in s) (n + 1) ≤ length s
+      go zero e = omega (arith, ltb-false (length s) (records_at (form_in s) (cores_in s)) enough, record-place (form_in s) (cores_in s) 0)
       go (suc n) e =
           let whole = kept_whole (n + 1) (omega arith) (omega arith) in
           omega (arith, whole, record-place (form_in s) (cores_in s) n, record-place (form_in s) (cores_in s) (suc n))

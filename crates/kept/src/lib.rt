@@ -2,7 +2,7 @@
 #![tactic(auto)]
 
 ghost use Rattle.std.specs.Prelude.{◌≡◌, ◌+◌, ◌≤◌, length};
-ghost use Rattle.rules.specs.File.{recordsAt, cores_in, form_in};
+ghost use Rattle.rules.specs.File.{records_at, cores_in, form_in};
 ghost use Rattle.rules.specs.Salvage.{task_fault, is_sound, kept};
 
 use rules::Task;
@@ -19,7 +19,7 @@ fn task_fault(cores: u8, x: Task) -> bool
 // Is the record in place i whole, and its task without a fault?
 fn is_sound(file: &[u8], i: usize) -> bool
     requires i_bound { i ≤ 255 }
-    requires file_in_bounds { recordsAt (form_in file.now) (cores_in file.now) ≤ length file.now }
+    requires file_in_bounds { records_at (form_in file.now) (cores_in file.now) ≤ length file.now }
     ensures { result ≡ is_sound file.now (i + 1) }
 {
     let form = file[3];
@@ -32,7 +32,7 @@ fn is_sound(file: &[u8], i: usize) -> bool
 
 // How many are kept, of a file that reaches the end of its sets.
 pub fn count(file: &[u8]) -> u8
-    requires { recordsAt (form_in file.now) (cores_in file.now) ≤ length file.now }
+    requires { records_at (form_in file.now) (cores_in file.now) ≤ length file.now }
     ensures { result ≡ kept file.now }
 {
     let promised = file[2];

@@ -69,7 +69,7 @@ pub fn word_sums(s: &[u8]) -> Totals
     let n = s.len() / 8;
     let mut k: usize = 0;
     while k < n {
-        let w = bytes::le64(s, 8 * k);
+        let w = lent_bytes::le64(s, 8 * k);
         e += evens(w);
         o += evens(w / 256);
         re += e;

@@ -7,7 +7,7 @@ use console::Got;
 fn write(file: &[u8]) -> bool {
     let mut out = [0u8; 3266];
     let n = listing::list(file, &mut out);
-    console::say(b"list: ", bytes::front(&out, n))
+    console::say(b"list: ", lent_bytes::front(&out, n))
 }
 
 fn show(word: usize, file: &[u8]) -> u8 {

@@ -9,7 +9,7 @@ ghost use Rattle.rules.specs.Operations.{check_file, reading, writing, out_after
 ghost use Rattle.file_claims.specs.Files.{AcceptedFile, AcceptedTable, cleared};
 ghost use Rattle.mission_files.specs.Written.{written_to, WrittenBack};
 
-use bytes::{alter, front};
+use lent_bytes::{alter, front};
 use rules::{Read, Refusal, Table};
 
 // Point 1, a file that is cut short: its first n bytes.

@@ -2,7 +2,7 @@
 #![tactic(auto)]
 
 ghost use Rattle.std.specs.Prelude.{◌≡◌, ◌+◌, ◌<◌, ◌≤◌};
-ghost use Rattle.rules.specs.File.{sets_at, recordSize, recordAt, file_length};
+ghost use Rattle.rules.specs.File.{sets_at, record_size, record_at, file_length};
 
 // A count as a size.
 pub fn size(x: u8) -> usize
@@ -22,7 +22,7 @@ pub fn sets_at(form: u8) -> usize
 
 // RULES 7.1: the bytes of a task's record.
 pub fn record_size(form: u8) -> usize
-    ensures value { result ≡ recordSize form }
+    ensures value { result ≡ record_size form }
     ensures upper_bound { result ≤ 64 }
 {
     29
@@ -31,7 +31,7 @@ pub fn record_size(form: u8) -> usize
 // Where the record in place i starts, which is that of task number i + 1 (RULES 7.2).
 pub fn record_at(form: u8, cores: u8, i: usize) -> usize
     requires { i ≤ 255 }
-    ensures value { result ≡ recordAt form cores (i + 1) }
+    ensures value { result ≡ record_at form cores (i + 1) }
     ensures upper_bound { result ≤ 16894 }
 {
     sets_at(form) + 2 * size(cores) + record_size(form) * i

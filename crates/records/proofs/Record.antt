@@ -6,21 +6,21 @@ use lib.ListN.{length, length-append}
 use lib.Seq.{sets}
 use Rattle.rules.specs.declared.Task.{Task}
 use Rattle.rules.specs.Tasks.{C, T, D, H}
-use Rattle.rules.specs.File.{recordSize, recordBytes}
+use Rattle.rules.specs.File.{record_size, record_bytes}
 use Rattle.laws.specs.Idioms.{bytes_of}
 use Rattle.laws.proofs.Bytes.{bytes-length}
 use Rattle.laws.proofs.Runs.{sets-after}
 
 module _ (form : ℕ) (i : Task) where
-  pub record-length : length (recordBytes form i) ≡ recordSize form
-  unfolding recordBytes recordSize
-  record-length = simp (length-append, bytes-length)
+  pub record_length : length (record_bytes form i) ≡ record_size form
+  unfolding record_bytes record_size
+  record_length = simp (length-append, bytes-length)
 
-  pub record-stores : (out : List ℕ) (at : ℕ)
+  pub record_stores : (out : List ℕ) (at : ℕ)
       → sets (sets (sets (sets (sets out at (bytes_of 1 i.core)) (at + 1) (bytes_of 8 (C i))) (at + 9) (bytes_of 8 (T i))) (at + 17) (bytes_of 8 (D i))) (at + 25) (bytes_of 4 (H i))
-      ≡ sets out at (recordBytes form i)
-  unfolding recordBytes
-  record-stores out at =
+      ≡ sets out at (record_bytes form i)
+  unfolding record_bytes
+  record_stores out at =
       let a = bytes_of 1 i.core in
       let b = a ++ bytes_of 8 (C i) in
       let c = b ++ bytes_of 8 (T i) in

@@ -19,9 +19,9 @@ unfoldable pub other_cores : Table → ℕ → List ℕ
 other_cores t p = those (λ q. not (eqb q p)) (up_to t.cores)
 
 -- RULES 4.8
-unfoldable pub busRD : Table → ℕ
-busRD t = (t.cores - 1) * (slot t).0
+unfoldable pub bus_RD : Table → ℕ
+bus_RD t = (t.cores - 1) * (slot t).0
 
 -- RULES 4.9; here t is the table and x the time
-unfoldable pub busJD : Table → ℕ → ℕ → ℕ
-busJD t p x = (slot t).0 * sum_over (other_cores t p) (λ q. arrivals t q x)
+unfoldable pub bus_JD : Table → ℕ → ℕ → ℕ
+bus_JD t p x = (slot t).0 * sum_over (other_cores t p) (λ q. arrivals t q x)

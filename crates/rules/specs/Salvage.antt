@@ -7,22 +7,22 @@ use Rattle.rules.specs.declared.Salvaged.{Salvaged}
 use Rattle.rules.specs.Kinds.{marked}
 use Rattle.rules.specs.Chain.{◌or_else◌, is_accepted, given}
 use Rattle.rules.specs.Refusals.{core_fault, time_fault, request_fault, check_board}
-use Rattle.rules.specs.File.{recordsAt, recordSize, recordAt, recordTask, recordIn, cores_in, tasks_in, form_in, encode, first_tasks, decode}
+use Rattle.rules.specs.File.{records_at, record_size, record_at, record_task, record_in, cores_in, tasks_in, form_in, encode, first_tasks, decode}
 use Rattle.rules.specs.Operations.{check_file}
 
 -- 17 of RULES 9.3: the file ends before its sets do. So does every file of less than four bytes, as the sets stand behind those
 unfoldable pub ends_early : List ℕ → Bool
-ends_early s = ltb (length s) (recordsAt (form_in s) (cores_in s))
+ends_early s = ltb (length s) (records_at (form_in s) (cores_in s))
 
 -- RULES 7.7: the file reaches the end of record k; the task in it has a fault, 9, 10 or 11
 unfoldable pub reaches : List ℕ → ℕ → Bool
-reaches s k = leb (recordAt (form_in s) (cores_in s) k + recordSize (form_in s)) (length s)
+reaches s k = leb (record_at (form_in s) (cores_in s) k + record_size (form_in s)) (length s)
 
 unfoldable pub task_fault : ℕ → Task → Bool
 task_fault cores i = core_fault cores i || time_fault i || request_fault i
 
 unfoldable pub is_sound : List ℕ → ℕ → Bool
-is_sound s k = reaches s k && not (task_fault (cores_in s) (recordTask (recordIn s k)))
+is_sound s k = reaches s k && not (task_fault (cores_in s) (record_task (record_in s k)))
 
 -- of the m numbers from k on, how many pass a test before the first that does not
 unfoldable pub leading : (ℕ → Bool) → ℕ → ℕ → ℕ

@@ -17,7 +17,7 @@ fn write(named: bool, file: &[u8]) -> bool {
 fn tell(named: bool, salvaged: Salvaged) -> bool {
     let mut out = [0u8; 85];
     let n = report::line(salvaged, &mut out);
-    let line = bytes::front(&out, n);
+    let line = lent_bytes::front(&out, n);
     if named {
         return console::say(b"salvage: ", line);
     }
@@ -32,7 +32,7 @@ fn salvage(word: usize, file: &[u8]) -> u8 {
     let salvaged = salvaging::salvage(file, &mut new);
     let refusal = salvaged.refusal;
     let done = refusal.number == 0;
-    if done && !write(named, bytes::front(&new, salvaged.length)) {
+    if done && !write(named, lent_bytes::front(&new, salvaged.length)) {
         return 3;
     }
     if !tell(named, salvaged) {

@@ -8,7 +8,7 @@ use native.Mathlib.Omega.{arith}
 use lib.Dec.{eqb}
 use borrow.Author.Tests.{leb-false, eqb-true, eqb-false}
 use Rattle.laws.proofs.Tests.{clash}
-use Rattle.rules.specs.File.{recordTask, recordIn, cores_in, tasks_in}
+use Rattle.rules.specs.File.{record_task, record_in, cores_in, tasks_in}
 use Rattle.rules.specs.Salvage.{reaches, task_fault, is_sound, kept, stopped, salvaging}
 use Rattle.kept.proofs.Kept.{kept-most, kept_stop, kept_whole, kept_faultless}
 use Rattle.salvage_claims.specs.NewFile.{Succeeds, Lacks, Counts}
@@ -17,9 +17,9 @@ use Rattle.salvage_claims.proofs.Passed.{passed}
 module _ (s : List ℕ) where
   unsound_lacks : (k : ℕ) → is_sound s k ≡ false → Lacks s k
   unfolding is_sound reaches
-  unsound_lacks k e = go (reaches s k) (task_fault (cores_in s) (recordTask (recordIn s k))) refl refl e
+  unsound_lacks k e = go (reaches s k) (task_fault (cores_in s) (record_task (record_in s k))) refl refl e
     where
-      go : (b c : Bool) → reaches s k ≡ b → task_fault (cores_in s) (recordTask (recordIn s k)) ≡ c → b && not c ≡ false → Lacks s k
+      go : (b c : Bool) → reaches s k ≡ b → task_fault (cores_in s) (record_task (record_in s k)) ≡ c → b && not c ≡ false → Lacks s k
       go false c short f e = inl (leb-false _ _ short)
       go true true far f e = inr f
       go true false far f e = absurd (clash e)

@@ -8,7 +8,7 @@ use lib.ListN.{length, take}
 use borrow.Author.Tests.{le-ltb}
 use Rattle.rules.specs.Chain.{is_accepted}
 use Rattle.rules.specs.Refusals.{check_board, check_tasks, check_table}
-use Rattle.rules.specs.File.{recordsAt, recordSize, recordAt, cores_in, tasks_in, form_in, decode}
+use Rattle.rules.specs.File.{records_at, record_size, record_at, cores_in, tasks_in, form_in, decode}
 use Rattle.rules.specs.Operations.{check_file}
 use Rattle.rules.specs.Salvage.{ends_early, is_sound, kept, salvaging}
 use Rattle.facts.proofs.Chain.{both-accepted}
@@ -21,9 +21,9 @@ use Rattle.salvage_claims.specs.NewFile.{Succeeds}
 use Rattle.salvage_claims.specs.Cut.{CutFile, fitting, TakenBack, Cut}
 use Rattle.salvage_claims.proofs.Passed.{passes}
 use Rattle.salvage_claims.proofs.SalvagedTable.{table-small}
-use Rattle.salvage_claims.proofs.Faultless.{record-faultless}
+use Rattle.salvage_claims.proofs.Faultless.{record_faultless}
 use Rattle.salvage_claims.proofs.Fitting.{first_fits, some_fit, fits, next-cut}
-use Rattle.kept.proofs.CutParts.{cut-length, cores-cut, tasks-cut, form-cut, record-cut, board-cut}
+use Rattle.kept.proofs.CutParts.{cut-length, cores-cut, tasks-cut, form-cut, record_cut, board-cut}
 
 module _ (s : List ℕ) (n : ℕ) (c : CutFile s n) where
   table-accepted : is_accepted (check_table (decode s)) ≡ true
@@ -32,22 +32,22 @@ module _ (s : List ℕ) (n : ℕ) (c : CutFile s n) where
   within : n ≤ length s
   within = omega (arith, c.cut)
 
-  reaches : recordsAt (form_in s) (cores_in s) ≤ n
+  reaches : records_at (form_in s) (cores_in s) ≤ n
   reaches = omega (arith, first_fits s n c)
 
   -- ---- the records that fit are those that are kept
 
   -- where a record ends, by the bytes that are left
   end-cut : (k : ℕ)
-      → recordAt (form_in (take n s)) (cores_in (take n s)) k + recordSize (form_in (take n s)) ≡ recordAt (form_in s) (cores_in s) k + recordSize (form_in s)
+      → record_at (form_in (take n s)) (cores_in (take n s)) k + record_size (form_in (take n s)) ≡ record_at (form_in s) (cores_in s) k + record_size (form_in s)
   end-cut k = rw (form-cut s n within reaches, cores-cut s n within reaches)
 
   sound-before : (i : ℕ) → i < fitting s n → is_sound (take n s) (1 + i) ≡ true
   sound-before i less =
       let e : 1 + i ≡ i + 1 = omega arith in
       let whole = by_fault (take n s) (i + 1) (omega (arith, end-cut (i + 1), fits s n c i less, cut-length s n within reaches)) in
-      let faultless = record-faultless s table-accepted (i + 1) (omega arith) (omega arith) in
-      rw (e, ← whole, cores-cut s n within reaches, record-cut s n within reaches (i + 1) (fits s n c i less), faultless)
+      let faultless = record_faultless s table-accepted (i + 1) (omega arith) (omega arith) in
+      rw (e, ← whole, cores-cut s n within reaches, record_cut s n within reaches (i + 1) (fits s n c i less), faultless)
 
   unsound_next : fitting s n < tasks_in s → is_sound (take n s) (1 + fitting s n) ≡ false
   unsound_next less =
@@ -69,7 +69,7 @@ module _ (s : List ℕ) (n : ℕ) (c : CutFile s n) where
 
   late-cut : ends_early (take n s) ≡ false
   unfolding ends_early
-  late-cut = rw (form-cut s n within reaches, cores-cut s n within reaches, cut-length s n within reaches) (le-ltb n (recordsAt (form_in s) (cores_in s)) reaches)
+  late-cut = rw (form-cut s n within reaches, cores-cut s n within reaches, cut-length s n within reaches) (le-ltb n (records_at (form_in s) (cores_in s)) reaches)
 
   board-passed : is_accepted (check_board (decode (take n s))) ≡ true
   unfolding check_table
@@ -91,7 +91,7 @@ module _ (s : List ℕ) (n : ℕ) (c : CutFile s n) where
       done = done;
       promised = rw done (tasks-cut s n within reaches);
       kept = rw done kept-cut;
-      records = λ k low high. let e : k - 1 + 1 ≡ k = omega arith in record-cut s n within reaches k (rw e at (fits s n c (k - 1) (omega arith)));
+      records = λ k low high. let e : k - 1 + 1 ≡ k = omega arith in record_cut s n within reaches k (rw e at (fits s n c (k - 1) (omega arith)));
     }
 
 pub cut : Cut

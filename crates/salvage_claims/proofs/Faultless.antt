@@ -9,7 +9,7 @@ use Rattle.rules.specs.declared.Task.{Task}
 use Rattle.rules.specs.Tasks.{C, T, D, H, no_task, task_of}
 use Rattle.rules.specs.Chain.{is_accepted}
 use Rattle.rules.specs.Refusals.{core_fault, time_fault, request_fault, check_table}
-use Rattle.rules.specs.File.{recordTask, recordIn, cores_in, tasks_in, decode}
+use Rattle.rules.specs.File.{record_task, record_in, cores_in, tasks_in, decode}
 use Rattle.rules.specs.Salvage.{task_fault}
 use Rattle.facts.specs.Sound.{SoundTask}
 use Rattle.facts.proofs.Accepted.{sound}
@@ -30,10 +30,10 @@ sound_faultless cores i f =
     )
 
 module _ (s : List ℕ) (passed : is_accepted (check_table (decode s)) ≡ true) (k : ℕ) (low : 1 ≤ k) (high : k ≤ tasks_in s) where
-  task-read : task_of (decode s) k ≡ recordTask (recordIn s k)
+  task-read : task_of (decode s) k ≡ record_task (record_in s k)
   unfolding decode
-  task-read = place_of no_task (λ k. recordTask (recordIn s k)) 32 (tasks_in s) k low high
+  task-read = place_of no_task (λ k. record_task (record_in s k)) 32 (tasks_in s) k low high
 
-  pub record-faultless : task_fault (cores_in s) (recordTask (recordIn s k)) ≡ false
+  pub record_faultless : task_fault (cores_in s) (record_task (record_in s k)) ≡ false
   unfolding decode
-  record-faultless = rw task-read at (sound_faultless (cores_in s) (task_of (decode s) k) ((sound (decode s) passed).task-sound k low high))
+  record_faultless = rw task-read at (sound_faultless (cores_in s) (task_of (decode s) k) ((sound (decode s) passed).task-sound k low high))

@@ -36,7 +36,7 @@ module _ (s out : List ℕ) (done : Succeeds s out) where
         says_so = rw new_read (marked-says (form_in s));
         same_kind = marked-bus (form_in s);
         bytes_stay = λ b. rw (file_is, kept_is) (same_bytes s p.late b);
-        record-stays = λ b k low high. rw file_is (same_record s p.late b k low (rw kept_is at high));
+        record_stays = λ b k low high. rw file_is (same_record s p.late b k low (rw kept_is at high));
         fits = rw done p.room;
         rest-stays = rw done (drop-append_seam (encode (salvaged_table s)) _);
       }

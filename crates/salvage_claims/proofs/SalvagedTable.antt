@@ -13,10 +13,10 @@ use Rattle.rules.specs.declared.Read.{Read}
 use Rattle.rules.specs.Kinds.{marked}
 use Rattle.rules.specs.Chain.{accepted, is_accepted}
 use Rattle.rules.specs.Refusals.{check_board}
-use Rattle.rules.specs.File.{recordsAt, recordSize, recordAt, body, encode, recordIn, cores_in, form_in, decode}
+use Rattle.rules.specs.File.{records_at, record_size, record_at, body, encode, record_in, cores_in, form_in, decode}
 use Rattle.rules.specs.Operations.{reading}
 use Rattle.rules.specs.Salvage.{ends_early, kept, salvaged_table}
-use Rattle.places.proofs.Places.{records-limit, record-place, record-within}
+use Rattle.places.proofs.Places.{records-limit, record-place, record_within}
 use Rattle.kept.proofs.Kept.{kept_reach, salvaged-accepted}
 use Rattle.file_claims.specs.Files.{Shape, cleared}
 use Rattle.file_claims.proofs.Places.{header}
@@ -44,9 +44,9 @@ module _ (s : List ℕ) (board : is_accepted (check_board (decode s)) ≡ true) 
 
 module _ (s : List ℕ) (late : ends_early s ≡ false) (b : Bytes s) where
   abbrev end : ℕ
-  end = recordAt (form_in s) (cores_in s) (kept s + 1)
+  end = record_at (form_in s) (cores_in s) (kept s + 1)
 
-  end_is : end ≡ recordsAt (form_in s) (cores_in s) + recordSize (form_in s) * kept s
+  end_is : end ≡ records_at (form_in s) (cores_in s) + record_size (form_in s) * kept s
   end_is = record-place (form_in s) (cores_in s) (kept s)
 
   pub same_bytes : part (encode (salvaged_table s)) 4 (end - 4) ≡ part s 4 (end - 4)
@@ -57,12 +57,12 @@ module _ (s : List ℕ) (late : ends_early s ≡ false) (b : Bytes s) where
       let written = body-read b (marked (form_in s)) (kept s) (marked_record (form_in s)) (omega (arith, end_is)) in
       rw (written, ← end_is) (take_at (part s 4 (end - 4)) _ (end - 4) (part_length s 4 (end - 4) (omega (arith, end_is))))
 
-  pub same_record : (k : ℕ) → 1 ≤ k → k ≤ kept s → recordIn (encode (salvaged_table s)) k ≡ recordIn s k
-  unfolding encode body salvaged_table recordIn
+  pub same_record : (k : ℕ) → 1 ≤ k → k ≤ kept s → record_in (encode (salvaged_table s)) k ≡ record_in s k
+  unfolding encode body salvaged_table record_in
   same_record k low high =
       let e : k - 1 + 1 ≡ k = omega arith in
       let behind = rw e at (record-place (form_in s) (cores_in s) (k - 1)) in
-      let inside = rw e at (record-within (form_in s) (cores_in s) (k - 1) (kept s) (omega arith)) in
+      let inside = rw e at (record_within (form_in s) (cores_in s) (k - 1) (kept s) (omega arith)) in
       let limit = records-limit (form_in s) (cores_in s) in
       rw (marked_place (form_in s) (cores_in s) k, marked-size (form_in s))
-      (parts-agree (encode (salvaged_table s)) s 4 (end - 4) same_bytes (recordAt (form_in s) (cores_in s) k) (recordSize (form_in s)) (omega arith) (omega arith))
+      (parts-agree (encode (salvaged_table s)) s 4 (end - 4) same_bytes (record_at (form_in s) (cores_in s) k) (record_size (form_in s)) (omega arith) (omega arith))

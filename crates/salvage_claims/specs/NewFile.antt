@@ -5,7 +5,7 @@ use Rattle.laws.specs.Idioms.{part}
 use Rattle.laws.specs.Bytes.{Bytes}
 use Rattle.rules.specs.Kinds.{says_bus, marked, is_salvaged}
 use Rattle.rules.specs.Chain.{accepted, is_accepted}
-use Rattle.rules.specs.File.{recordSize, recordAt, recordTask, recordIn, cores_in, tasks_in, form_in, first_tasks}
+use Rattle.rules.specs.File.{record_size, record_at, record_task, record_in, cores_in, tasks_in, form_in, first_tasks}
 use Rattle.rules.specs.Operations.{reading}
 use Rattle.rules.specs.Salvage.{task_fault, salvaging, salvaged_out}
 
@@ -19,7 +19,7 @@ new_file s out = take (salvaging s out).length (salvaged_out s out)
 
 -- where the last kept record ends, in the cut file and in the new one
 abbrev pub kept_end : List ℕ → List ℕ → ℕ
-kept_end s out = recordAt (form_in s) (cores_in s) ((salvaging s out).kept + 1)
+kept_end s out = record_at (form_in s) (cores_in s) ((salvaging s out).kept + 1)
 
 pub record NewFile (s out : List ℕ) : Type 0 where
   -- reading accepts it: the figures are the cut file's, with the first records of it and bit 1 set
@@ -28,7 +28,7 @@ pub record NewFile (s out : List ℕ) : Type 0 where
   pub same_kind : says_bus (marked (form_in s)) ≡ says_bus (form_in s)
   -- from the timing figures to the end of the last kept record no byte is altered, and so no kept record is
   pub bytes_stay : Bytes s → part (new_file s out) 4 (kept_end s out - 4) ≡ part s 4 (kept_end s out - 4)
-  pub record-stays : Bytes s → (k : ℕ) → 1 ≤ k → k ≤ (salvaging s out).kept → recordIn (new_file s out) k ≡ recordIn s k
+  pub record_stays : Bytes s → (k : ℕ) → 1 ≤ k → k ≤ (salvaging s out).kept → record_in (new_file s out) k ≡ record_in s k
   -- and it fits the buffer, of which the bytes behind it stay
   pub fits : (salvaging s out).length ≤ length out
   pub rest-stays : drop (salvaging s out).length (salvaged_out s out) ≡ drop (salvaging s out).length out
@@ -36,8 +36,8 @@ pub record NewFile (s out : List ℕ) : Type 0 where
 -- record k is missing: the file ends before it does; or it is at fault, by 9, 10 or 11
 abbrev pub Lacks : List ℕ → ℕ → Type 0
 Lacks s k =
-    (length s < recordAt (form_in s) (cores_in s) k + recordSize (form_in s))
-    ⊎ (task_fault (cores_in s) (recordTask (recordIn s k)) ≡ true)
+    (length s < record_at (form_in s) (cores_in s) k + record_size (form_in s))
+    ⊎ (task_fault (cores_in s) (record_task (record_in s k)) ≡ true)
 
 pub record Counts (s out : List ℕ) : Type 0 where
   pub promised : (salvaging s out).promised ≡ tasks_in s

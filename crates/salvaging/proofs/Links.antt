@@ -12,7 +12,7 @@ use Rattle.rules.specs.declared.Salvaged.{Salvaged}
 use Rattle.rules.specs.declared.Written.{Written}
 use Rattle.rules.specs.Chain.{accepted, refused, is_accepted, ◌or_else◌, given}
 use Rattle.rules.specs.Refusals.{check_board}
-use Rattle.rules.specs.File.{recordsAt, cores_in, tasks_in, form_in, encode, decode}
+use Rattle.rules.specs.File.{records_at, cores_in, tasks_in, form_in, encode, decode}
 use Rattle.rules.specs.Operations.{check_file, check_write, writing, out_after}
 use Rattle.rules.specs.Salvage.{ends_early, kept, stopped, salvaged_table, check_salvage, salvaging, salvaged_out}
 use Rattle.places.proofs.Places.{records-limit}
@@ -29,21 +29,21 @@ module _ (s : List ℕ) where
   unfolding check_front
   front-accepted e = simp e
 
-  pub early : length s < recordsAt (form_in s) (cores_in s) → ends_early s ≡ true
+  pub early : length s < records_at (form_in s) (cores_in s) → ends_early s ≡ true
   unfolding ends_early
-  early h = lt-ltb (length s) (recordsAt (form_in s) (cores_in s)) h
+  early h = lt-ltb (length s) (records_at (form_in s) (cores_in s)) h
 
   -- a file of less than four bytes ends before its sets do
   pub few_bytes : length s < 4 → ends_early s ≡ true
   few_bytes h = early (omega (arith, records-limit (form_in s) (cores_in s)))
 
-  pub late : recordsAt (form_in s) (cores_in s) ≤ length s → ends_early s ≡ false
+  pub late : records_at (form_in s) (cores_in s) ≤ length s → ends_early s ≡ false
   unfolding ends_early
-  late h = le-ltb (length s) (recordsAt (form_in s) (cores_in s)) h
+  late h = le-ltb (length s) (records_at (form_in s) (cores_in s)) h
 
-  pub reached : ends_early s ≡ false → recordsAt (form_in s) (cores_in s) ≤ length s
+  pub reached : ends_early s ≡ false → records_at (form_in s) (cores_in s) ≤ length s
   unfolding ends_early
-  reached e = ltb-false (length s) (recordsAt (form_in s) (cores_in s)) e
+  reached e = ltb-false (length s) (records_at (form_in s) (cores_in s)) e
 
   module _ (refusedFile : is_accepted (check_file s) ≡ false) where
     pub front-early : ends_early s ≡ true → refused 17 0 ≡ check_front s

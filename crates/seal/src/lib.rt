@@ -12,7 +12,7 @@ pub fn put_trailer(out: &mut [u8], e: usize)
     ensures { out.new ≡ sets out.old e (trailer (take e out.old)) }
 {
     let total = sums::sums(&out[..e]);
-    bytes::put(out, e, e as u64, 4);
-    bytes::put(out, e + 4, total.sum, 4);
-    bytes::put(out, e + 8, total.running, 4);
+    lent_bytes::put(out, e, e as u64, 4);
+    lent_bytes::put(out, e + 4, total.sum, 4);
+    lent_bytes::put(out, e + 8, total.running, 4);
 }

@@ -3,9 +3,9 @@ use mathlib.Core.Path.{◌≡◌}
 use mathlib.Core.List.{List}
 use Prim.Native.Nat.{ℕ}
 use borrow.Author.Tests.{eq-eqb, ne_eqb}
-use Rattle.rules.specs.File.{cores_in, tasks_in, form_in, recordAt}
+use Rattle.rules.specs.File.{cores_in, tasks_in, form_in, record_at}
 use Rattle.rules.specs.Operations.{check_file, check_view}
-use Rattle.shown.specs.Shown.{task_count, recordPlace}
+use Rattle.shown.specs.Shown.{task_count, record_place}
 
 module _ (s : List ℕ) where
   pub no_tasks : ((check_file s).number ≡ 0 → ⊥) → task_count s ≡ 0
@@ -17,10 +17,10 @@ module _ (s : List ℕ) where
   tasks-there passes = rw (eq-eqb _ _ passes)
 
 module _ (s : List ℕ) (k : ℕ) where
-  pub no_record : ((check_view s k).number ≡ 0 → ⊥) → recordPlace s k ≡ 0
-  unfolding recordPlace
+  pub no_record : ((check_view s k).number ≡ 0 → ⊥) → record_place s k ≡ 0
+  unfolding record_place
   no_record refused = rw (ne_eqb _ _ refused)
 
-  pub record-there : (check_view s k).number ≡ 0 → recordPlace s k ≡ recordAt (form_in s) (cores_in s) k
-  unfolding recordPlace
-  record-there passes = rw (eq-eqb _ _ passes)
+  pub record_there : (check_view s k).number ≡ 0 → record_place s k ≡ record_at (form_in s) (cores_in s) k
+  unfolding record_place
+  record_there passes = rw (eq-eqb _ _ passes)

@@ -2,7 +2,7 @@
 #![tactic(auto)]
 
 ghost use Rattle.std.specs.Prelude.{◌≡◌};
-ghost use Rattle.shown.specs.Shown.{task_count, recordPlace};
+ghost use Rattle.shown.specs.Shown.{task_count, record_place};
 
 // How many tasks a file has, 0 where it is refused.
 pub fn task_count(file: &[u8]) -> usize
@@ -17,7 +17,7 @@ pub fn task_count(file: &[u8]) -> usize
 
 // Where a task's record starts in the file, 0 where there is none: the position of what `view::view` shows.
 pub fn record_place(file: &[u8], task: u8) -> usize
-    ensures { result ≡ recordPlace file.now task }
+    ensures { result ≡ record_place file.now task }
 {
     let refusal = view::view_refusal(file, task);
     if refusal.number != 0 {

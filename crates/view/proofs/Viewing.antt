@@ -7,7 +7,7 @@ use Prim.Native.Nat.{ℕ, ◌<◌, ◌≤◌}
 use borrow.Author.Tests.{le-leb, lt-leb, not-false}
 use Rattle.rules.specs.Chain.{accepted, refused, is_accepted, given}
 use Rattle.rules.specs.Refusals.{asked_fault}
-use Rattle.rules.specs.File.{tasks_in, recordIn, decode}
+use Rattle.rules.specs.File.{tasks_in, record_in, decode}
 use Rattle.rules.specs.Operations.{check_file, check_view, viewing}
 use Rattle.laws.specs.Idioms.{Within}
 use Rattle.laws.proofs.Tests.{and_false, inside}
@@ -34,7 +34,7 @@ module _ (s : List ℕ) (k : ℕ) where
   view-nothing e = rw e
 
   module _ (passed : is_accepted (check_view s k) ≡ true) where
-    pub view_record : viewing s k ≡ recordIn s k
+    pub view_record : viewing s k ≡ record_in s k
     unfolding viewing
     view_record = rw passed
 

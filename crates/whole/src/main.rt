@@ -6,7 +6,7 @@ use console::Got;
 fn show(word: usize, file: &[u8]) -> u8 {
     let mut out = [0u8; 29];
     let n = receipt::line(file, &mut out);
-    if !console::say(b"whole: ", bytes::front(&out, n)) {
+    if !console::say(b"whole: ", lent_bytes::front(&out, n)) {
         return 3;
     }
     let came = arrival::whole(file);

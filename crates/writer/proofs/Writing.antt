@@ -11,7 +11,7 @@ use borrow.Author.Tests.{lt-ltb, le-ltb}
 use Rattle.rules.specs.declared.Table.{Table}
 use Rattle.rules.specs.Chain.{accepted, refused, is_accepted}
 use Rattle.rules.specs.Refusals.{check_table}
-use Rattle.rules.specs.File.{sets_at, recordsAt, recordSize, file_length, trailer, body, encode}
+use Rattle.rules.specs.File.{sets_at, records_at, record_size, file_length, trailer, body, encode}
 use Rattle.rules.specs.Operations.{check_write, writing, out_after}
 use Rattle.writer.specs.Answers.{wrote_nothing, Wrote}
 use Rattle.laws.proofs.Bytes.{bytes-length}
@@ -19,7 +19,7 @@ use Rattle.laws.proofs.Runs.{sets-after, sets-front}
 
 -- 46 + 2·8 + 29·32 is 990
 pub file_small : (form cores tasks : ℕ) → cores ≤ 8 → tasks ≤ 32 → file_length form cores tasks ≤ 990
-unfolding file_length recordsAt recordSize sets_at
+unfolding file_length records_at record_size sets_at
 file_small form cores tasks c t = omega arith
 
 pub encode-length : (t : Table) → length (encode t) ≡ length (body t) + 12

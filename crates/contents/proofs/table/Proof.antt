@@ -4,14 +4,14 @@ use Prim.Native.Nat.{ℕ, ◌+◌, ◌≤◌}
 use native.Mathlib.Omega.{arith}
 use lib.ListN.{length}
 use borrow.Author.Rules.{rules}
-use Rattle.rules.specs.File.{recordAt, cores_in, form_in}
+use Rattle.rules.specs.File.{record_at, cores_in, form_in}
 use Rattle.fields.proofs.Steps.{header-there}
 use Rattle.contents.proofs.Steps.{sets-there}
 use Rattle.contents.proofs.table.Statement.{statement}
 use Rattle.contents.proofs.table.Tie as tie
 
 -- the header is there
-long : (s : List ℕ) (n : ℕ) → recordAt (form_in s) (cores_in s) (n + 1) ≤ length s → 34 ≤ length s
+long : (s : List ℕ) (n : ℕ) → record_at (form_in s) (cores_in s) (n + 1) ≤ length s → 34 ≤ length s
 long s n reaches = header-there s (sets-there s n reaches)
 
 sets-in-requires : tie.Need-sets-in-requires

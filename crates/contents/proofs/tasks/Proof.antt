@@ -6,7 +6,7 @@ use borrow.Author.Rules.{rules}
 use Rattle.laws.specs.Idioms.{from, filled}
 use Rattle.rules.specs.Tasks.{no_task}
 use Rattle.contents.specs.Tasks.{tasks_to}
-use Rattle.contents.proofs.Steps.{task-next, record-there}
+use Rattle.contents.proofs.Steps.{task-next, record_there}
 use Rattle.contents.proofs.tasks.Statement.{statement}
 use Rattle.contents.proofs.tasks.Tie as tie
 
@@ -26,7 +26,7 @@ few c = omega (arith, c.loop-test.true, c.before.before.before.before.requires.0
 record-task-requires : tie.Need-record-task-requires invariant-loop decreases-loop
 record-task-requires c κs =
     let s = c.before.before.before.before in
-    (omega (arith, few c), record-there s.args.file.now s.args.n s.requires.1 c.before.loop.i c.loop-test.true)
+    (omega (arith, few c), record_there s.args.file.now s.args.n s.requires.1 c.before.loop.i c.loop-test.true)
 
 loop-again : tie.Need-loop-preserved invariant-loop decreases-loop
 loop-again c =

@@ -3,7 +3,7 @@ use native.Mathlib.Omega.{arith}
 use borrow.Author.Rules.{rules}
 use Rattle.rules.specs.File.{sets_at, form_in, cores_in}
 use Rattle.laws.proofs.Runs.{sets-filled}
-use Rattle.places.proofs.Places.{records-are}
+use Rattle.places.proofs.Places.{records_are}
 use Rattle.fields.specs.Places.{figures_in}
 use Rattle.fields.proofs.Steps.{figures-length, header-there}
 use Rattle.fields.proofs.sets_in.Statement.{statement}
@@ -14,7 +14,7 @@ figures-requires c κs =
     let z = c.before in
     let a = z.before.before in
     let s = a.before.before.before.args.file.now in
-    omega (arith, z.size.ensures, a.sets-at.ensures, records-are (form_in s) (cores_in s))
+    omega (arith, z.size.ensures, a.sets-at.ensures, records_are (form_in s) (cores_in s))
 
 returns : tie.Need-returns
 returns c =

@@ -1,13 +1,13 @@
 -- A record's five figures, each from its place. Assumes nothing.
 use native.Mathlib.Omega.{arith}
 use borrow.Author.Rules.{rules}
-use Rattle.rules.specs.File.{recordTask}
+use Rattle.rules.specs.File.{record_task}
 use Rattle.laws.proofs.Parts.{number-one}
 use Rattle.fields.proofs.task_in.Statement.{statement}
 use Rattle.fields.proofs.task_in.Tie as tie
 
 returns : tie.Need-returns
-unfolding recordTask
+unfolding record_task
 returns c =
     let d = c.before.before in
     let s = d.before.before.before.before.args.part.now in

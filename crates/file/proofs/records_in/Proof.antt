@@ -8,7 +8,7 @@ use lib.ListN.{length}
 use Rattle.laws.proofs.Places.{place_of}
 use Rattle.rules.specs.Tasks.{no_task, task_of}
 use Rattle.rules.specs.Refusals.{check_tasks}
-use Rattle.rules.specs.File.{form_in, cores_in, tasks_in, recordAt, recordSize, recordIn, recordTask, decode}
+use Rattle.rules.specs.File.{form_in, cores_in, tasks_in, record_at, record_size, record_in, record_task, decode}
 use Rattle.tasks.proofs.Seen.{SeenAll, seen_none, seen_task, seen_all}
 use Rattle.file.proofs.records_in.Statement.{statement}
 use Rattle.file.proofs.records_in.Tie as tie

@@ -2,7 +2,7 @@
 use borrow.Author.Rules.{rules}
 use Prim.Native.Nat.{◌+◌, ◌≤◌}
 use lib.ListN.{length}
-use Rattle.rules.specs.File.{recordSize, recordAt, cores_in, form_in}
+use Rattle.rules.specs.File.{record_size, record_at, cores_in, form_in}
 use native.Mathlib.Omega.{arith}
 use Rattle.fields.proofs.Steps.{header-there}
 use Rattle.kept.proofs.Sound.{cut_off, by_fault}
@@ -16,7 +16,7 @@ returns c =
 
 -- the file reaches the end of the record
 ends : (c : tie.Else1) → let a = c.before.before.before.before.before.before.args in
-    recordAt (form_in a.file.now) (cores_in a.file.now) (a.i + 1) + recordSize (form_in a.file.now) ≤ length a.file.now
+    record_at (form_in a.file.now) (cores_in a.file.now) (a.i + 1) + record_size (form_in a.file.now) ≤ length a.file.now
 ends c =
     let size = c.before in
     omega (arith, c.if1.false, size.record-size.ensures.0, size.before.record-at.ensures.0)

@@ -1,6 +1,6 @@
 -- A record's five figures. Assumes nothing.
 use borrow.Author.Rules.{rules}
-use Rattle.records.proofs.Record.{record-stores}
+use Rattle.records.proofs.Record.{record_stores}
 use Rattle.records.proofs.put_task.Statement.{statement}
 use Rattle.records.proofs.put_task.Tie as tie
 
@@ -13,7 +13,7 @@ returns c =
     let p1 = p2.before.before.before.before in
     let a = p1.before.before.before.before.args in
     rw (p5.put5.ensures, p4.put4.ensures, p3.put3.ensures, p2.put2.ensures, p1.put.ensures)
-    (record-stores a.form a.task a.out.now a.at)
+    (record_stores a.form a.task a.out.now a.at)
 
 pub put-task-spec : {M : Type 1} → statement M
 put-task-spec =

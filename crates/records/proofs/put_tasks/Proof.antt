@@ -7,17 +7,17 @@ use borrow.Author.Rules.{rules}
 use lib.ListN.{length, take}
 use lib.Seq.{sets}
 use Rattle.rules.specs.Tasks.{no_task}
-use Rattle.rules.specs.File.{recordsAt, recordSize, recordBytes}
+use Rattle.rules.specs.File.{records_at, record_size, record_bytes}
 use Rattle.laws.specs.Idioms.{joined}
 use Rattle.laws.proofs.Runs.{unmapped, store_next}
-use Rattle.places.proofs.Places.{record-limit, record-place, record-within}
-use Rattle.records.proofs.Record.{record-length}
+use Rattle.places.proofs.Places.{record_limit, record-place, record_within}
+use Rattle.records.proofs.Record.{record_length}
 use Rattle.records.proofs.put_tasks.Statement.{statement}
 use Rattle.records.proofs.put_tasks.Tie as tie
 
 abbrev invariant-loop : tie.invariant-loop
 invariant-loop out₀ t count done₀ out done =
-    (done ≤ count) × (length out ≡ length out₀) × (out ≡ sets out₀ (recordsAt t.fourth t.cores) (joined (map (recordBytes t.fourth) (take done t.task))))
+    (done ≤ count) × (length out ≡ length out₀) × (out ≡ sets out₀ (records_at t.fourth t.cores) (joined (map (record_bytes t.fourth) (take done t.task))))
 
 abbrev decreases-loop : tie.decreases-loop
 decreases-loop out₀ t count done₀ out done = count - done
@@ -29,7 +29,7 @@ put-task-requires : tie.Need-put-task-requires invariant-loop decreases-loop
 put-task-requires c κs =
     let l = c.before.before.before.before in
     let t = l.before.before.before.args.t2 in
-    omega (arith, c.record-at.ensures.0, record-limit t.fourth, record-within t.fourth t.cores l.loop.done t.tasks (omega arith))
+    omega (arith, c.record-at.ensures.0, record_limit t.fourth, record_within t.fourth t.cores l.loop.done t.tasks (omega arith))
 
 loop-again : tie.Need-loop-preserved invariant-loop decreases-loop
 loop-again c =
@@ -39,8 +39,8 @@ loop-again c =
     let a = start.args in
     let t = a.t2 in
     let form = t.fourth in
-    let at : p.before.record-at.result ≡ recordsAt form t.cores + recordSize form * l.done = p.before.record-at.ensures.0 ∙ record-place form t.cores l.done in
-    let more = store_next (recordBytes form) (recordSize form) (record-length form) a.out.now (recordsAt form t.cores) t.task l.done no_task (omega (arith, all-32 start)) in
+    let at : p.before.record-at.result ≡ records_at form t.cores + record_size form * l.done = p.before.record-at.ensures.0 ∙ record-place form t.cores l.done in
+    let more = store_next (record_bytes form) (record_size form) (record_length form) a.out.now (records_at form t.cores) t.task l.done no_task (omega (arith, all-32 start)) in
     (search rules, search rules, rw (p.put-task.ensures, at, l.invariant.2) more)
 
 pub put-tasks-spec : {M : Type 1} → statement M

@@ -6,7 +6,7 @@ use Prim.Native.Nat.{◌<◌, ◌≤◌}
 use native.Mathlib.Omega.{arith}
 use lib.ListN.{length}
 use Rattle.rules.specs.Chain.{is_accepted}
-use Rattle.rules.specs.File.{recordsAt, cores_in, form_in}
+use Rattle.rules.specs.File.{records_at, cores_in, form_in}
 use Rattle.rules.specs.Operations.{check_file}
 use Rattle.facts.proofs.Chain.{passes, refuses}
 use Rattle.places.proofs.Places.{record-place}
@@ -28,11 +28,11 @@ returns-3 c =
     let found = c.before.before in
     let e = found.before.before.before.before in
     let s = e.before.before.before.before.args.file.now in
-    let ends : length s < recordsAt (form_in s) (cores_in s) = omega (arith, c.before.if3.true, found.record-at.ensures.0, record-place (form_in s) (cores_in s) 0) in
+    let ends : length s < records_at (form_in s) (cores_in s) = omega (arith, c.before.if3.true, found.record-at.ensures.0, record-place (form_in s) (cores_in s) 0) in
     c.refused3.ensures ∙ front-early _ (not_read e) (early _ ends)
 
 -- the file reaches the end of its sets
-there : (c : tie.Else3) → let s = c.before.before.before.before.before.before.before.before.before.args.file.now in recordsAt (form_in s) (cores_in s) ≤ length s
+there : (c : tie.Else3) → let s = c.before.before.before.before.before.before.before.before.before.args.file.now in records_at (form_in s) (cores_in s) ≤ length s
 there c =
     let s = c.before.before.before.before.before.before.before.before.before.args.file.now in
     omega (arith, c.if3.false, c.before.record-at.ensures.0, record-place (form_in s) (cores_in s) 0)

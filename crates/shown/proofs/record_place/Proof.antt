@@ -6,7 +6,7 @@ use borrow.Author.Rules.{rules}
 use borrow.Author.Tests.{eq-eqb}
 use Rattle.rules.specs.Operations.{check_view}
 use Rattle.view.proofs.Viewing.{viewed_sized, viewed_task}
-use Rattle.shown.proofs.Shown.{no_record, record-there}
+use Rattle.shown.proofs.Shown.{no_record, record_there}
 use Rattle.shown.proofs.record_place.Statement.{statement}
 use Rattle.shown.proofs.record_place.Tie as tie
 
@@ -22,7 +22,7 @@ returns-2 c =
     let e = z.before.before.before in
     let asked = viewed_task _ _ (eq-eqb _ _ (passes e)) in
     let back : z.size.result - 1 + 1 ≡ e.before.before.before.before.args.task = omega arith in
-    c.record-at.ensures.0 ∙ rw back (sym (record-there _ _ (passes e)))
+    c.record-at.ensures.0 ∙ rw back (sym (record_there _ _ (passes e)))
 
 pub record-place-spec : {M : Type 1} → statement M
 record-place-spec =

@@ -8,7 +8,7 @@ use Prim.Native.Nat.{◌+◌, ◌-◌}
 use Rattle.rules.specs.Chain.{is_accepted}
 use Rattle.rules.specs.File.{form_in, cores_in, tasks_in}
 use Rattle.rules.specs.Operations.{check_view}
-use Rattle.places.proofs.Places.{record-within, length_is}
+use Rattle.places.proofs.Places.{record_within, length_is}
 use Rattle.view.proofs.Viewing.{view-nothing, view_record, viewed_sized, viewed_task}
 use Rattle.view.proofs.view.Statement.{statement}
 use Rattle.view.proofs.view.Tie as tie
@@ -25,7 +25,7 @@ record-in-requires c κs =
       arith,
       (viewed_sized _ _ (passed e)).sized,
       length_is (form_in s) (cores_in s) (tasks_in s),
-      record-within (form_in s) (cores_in s) (c.size.result - 1) (tasks_in s) (omega arith),
+      record_within (form_in s) (cores_in s) (c.size.result - 1) (tasks_in s) (omega arith),
     )
 
 returns-2 : tie.Need-returns-2

@@ -1,0 +1,12 @@
+-- One change or another. Assumes nothing.
+use borrow.Author.Tests.{eq-eqb, ne_eqb}
+use Rattle.changes.specs.Difference.{◌or_else◌}
+use Rattle.changes.proofs.or_else.Goals as goal
+
+pub returns-then-a-eq0 : goal.returns-then-a-eq0
+unfolding ◌or_else◌
+returns-then-a-eq0 c = rw (eq-eqb _ _ c.if-a-eq0.true)
+
+pub returns-else-a-eq0 : goal.returns-else-a-eq0
+unfolding ◌or_else◌
+returns-else-a-eq0 c = rw (ne_eqb _ _ c.if-a-eq0.false)

@@ -1,0 +1,7 @@
+-- `cycles::larger` cuts the difference off at zero. Assumes nothing.
+use borrow.Author.Rules.{rules}
+use Rattle.laws.proofs.Signed.{larger-cut}
+use Rattle.cycles.proofs.larger.Goals as goal
+
+pub returns : goal.returns
+returns c = rw (c.most.ensures, c.less.ensures, larger-cut)

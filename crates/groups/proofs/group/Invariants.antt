@@ -1,0 +1,16 @@
+-- The places of one core's tasks. Assumes nothing.
+use borrow.Author.Rules.{rules}
+use Prim.Native.Nat.{◌+◌, ◌≤◌, ◌-◌}
+use mathlib.Core.Path.{◌≡◌}
+use native.Mathlib.Omega.{arith}
+use Rattle.standing.specs.OnCore.{places_on}
+use Rattle.standing.proofs.PlacesOn.{places_few}
+use Rattle.groups.specs.Grouped.{Joined}
+use Rattle.groups.proofs.Joining.{joined-none, joined-next}
+use Rattle.groups.proofs.group.Given as goal
+
+abbrev pub invariant-loop-i : goal.invariant-loop-i
+invariant-loop-i l = (l.i ≤ l.n) × (l.at ≤ 32) × Joined l.n (places_on l.core l.q l.i) l.m l.at l.initial.order l.order
+
+abbrev pub decreases-loop-i : goal.decreases-loop-i
+decreases-loop-i l = l.n - l.i

@@ -1,0 +1,12 @@
+-- `front` meets its contract. Assumes nothing.
+use mathlib.Core.Path.{sym}
+use native.Mathlib.Omega.{arith}
+use borrow.Author.Rules.{rules}
+use lib.Seq.{take_all, length-take-le}
+use Rattle.lent_bytes.proofs.front.Goals as goal
+
+pub slice_bounds-result-end : goal.slice_bounds-result-end
+slice_bounds-result-end c = sym (length-take-le _ _ (omega arith))
+
+pub returns-else-n-s : goal.returns-else-n-s
+returns-else-n-s c = sym (take_all c.args.n c.args.s.now (omega arith))

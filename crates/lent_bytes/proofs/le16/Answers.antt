@@ -1,0 +1,15 @@
+-- The number of two bytes, by its two bytes. Assumes nothing.
+use Prim.Native.Nat.{◌+◌}
+use native.Mathlib.Omega.{arith}
+use borrow.Author.Rules.{rules}
+use Rattle.laws.proofs.Parts.{number-part, number-one}
+use Rattle.lent_bytes.proofs.le16.Goals as goal
+
+pub UNKNOWN-overflow-add-result-2 : goal.UNKNOWN-overflow-add-result-2
+UNKNOWN-overflow-add-result-2 c = let a = c.args in omega (arith, c.shared_slice_known-2-1.given a.at, c.shared_slice_known-2-1.given (a.at + 1))
+
+pub returns : goal.returns
+returns c =
+    let a = c.args in
+    let s = a.s.now in
+    rw (number-part s a.at 1 1 (omega arith), number-one s a.at (omega arith), number-one s (a.at + 1) (omega arith))

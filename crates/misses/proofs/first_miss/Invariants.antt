@@ -1,0 +1,14 @@
+-- `first_miss` meets its contract. The invariant: the last line is that from here on. Assumes nothing.
+use mathlib.Core.Path.{◌≡◌, ◌∙◌, sym}
+use Prim.Native.Nat.{◌-◌, ◌≤◌}
+use native.Mathlib.Omega.{arith}
+use borrow.Author.Rules.{rules}
+use Rattle.misses.specs.Last.{last}
+use Rattle.misses.proofs.Missed.{last_from, last-start, last_none, last-hit, last_pass}
+use Rattle.misses.proofs.first_miss.Given as goal
+
+abbrev pub invariant-loop-i : goal.invariant-loop-i
+invariant-loop-i l = (l.i ≤ l.n) × (last l.answers l.n ≡ last_from l.answers l.i l.n)
+
+abbrev pub decreases-loop-i : goal.decreases-loop-i
+decreases-loop-i l = l.n - l.i

@@ -1,0 +1,7 @@
+-- A table is worsened where no change is told. Assumes nothing.
+use borrow.Author.Rules.{rules}
+use Rattle.order.proofs.Told.{agrees}
+use Rattle.order.proofs.worsens.Goals as goal
+
+pub returns : goal.returns
+returns c = rw c.difference.ensures (agrees _ _)

@@ -1,0 +1,14 @@
+-- One piece of a text, as the loop finds it. Assumes nothing.
+use borrow.Author.Rules.{rules}
+use mathlib.Core.Path.{sym}
+use Prim.Native.Nat.{◌-◌, ◌≤◌}
+use native.Mathlib.Omega.{arith}
+use lib.ListN.{length}
+use Rattle.pieces.proofs.Walk.{Left, left-all, left_end, left-found, left_mark, left_byte}
+use Rattle.pieces.proofs.piece.Given as goal
+
+abbrev pub invariant-loop-i : goal.invariant-loop-i
+invariant-loop-i l = (l.start ≤ l.i) × (l.i ≤ length l.s) × Left l.mark l.s l.k l.left l.start l.i
+
+abbrev pub decreases-loop-i : goal.decreases-loop-i
+decreases-loop-i l = length l.s - l.i

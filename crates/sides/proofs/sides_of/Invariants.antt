@@ -1,0 +1,16 @@
+-- `sides_of` gathers the bits from the last core down. Assumes nothing.
+use mathlib.Core.Path.{◌≡◌}
+use mathlib.Core.Bool.{Bool, true, false}
+use Prim.Native.Nat.{ℕ, ◌+◌, ◌-◌, ◌*◌, ◌≤◌, ◌<◌}
+use borrow.Author.Rules.{rules}
+use native.Mathlib.Nat.{sub-zero}
+use native.Mathlib.Omega.{arith}
+use Rattle.sides.specs.Masks.{mask_from, on_side}
+use Rattle.sides.proofs.Masks.{mask_step, mask-room}
+use Rattle.sides.proofs.sides_of.Given as goal
+
+abbrev pub invariant-loop-q : goal.invariant-loop-q
+invariant-loop-q l = (l.q ≤ l.cores) × (l.near ≡ mask_from (on_side true l.sets l.p) (l.q + 1) (l.cores - l.q)) × (l.far ≡ mask_from (on_side false l.sets l.p) (l.q + 1) (l.cores - l.q))
+
+abbrev pub decreases-loop-q : goal.decreases-loop-q
+decreases-loop-q l = l.q

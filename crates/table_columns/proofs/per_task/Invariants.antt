@@ -1,0 +1,15 @@
+-- Of each task its core and its latest allowed response. Assumes nothing.
+use borrow.Author.Rules.{rules}
+use mathlib.Core.Path.{◌≡◌, refl}
+use Prim.Native.Nat.{◌≤◌, ◌-◌}
+use native.Mathlib.Omega.{arith}
+use lib.ListN.{length, length-set}
+use Rattle.groups.specs.Columns.{PerTask}
+use Rattle.groups.proofs.Filling.{per_task-none, per_task-next}
+use Rattle.table_columns.proofs.per_task.Given as goal
+
+abbrev pub invariant-loop-i : goal.invariant-loop-i
+invariant-loop-i l = (l.i ≤ l.n) × (length l.core ≡ 32) × (length l.latest ≡ 32) × PerTask l.table.task l.i l.core l.latest
+
+abbrev pub decreases-loop-i : goal.decreases-loop-i
+decreases-loop-i l = l.n - l.i

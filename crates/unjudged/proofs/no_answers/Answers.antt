@@ -1,0 +1,6 @@
+-- No answer. Assumes nothing.
+use borrow.Author.Rules.{rules}
+use Rattle.unjudged.proofs.no_answers.Goals as goal
+
+pub returns : goal.returns
+returns c = simp c.missed-miss.ensures

@@ -1,0 +1,14 @@
+-- `put_answer` meets its contract. Assumes nothing.
+use borrow.Author.Rules.{rules}
+use Rattle.rules.specs.Listing.{verdict_words}
+use Rattle.text.proofs.Put.{◌then◌}
+use Rattle.words.proofs.put_answer.Goals as goal
+
+pub returns-in-Misses : goal.returns-in-Misses
+unfolding verdict_words
+returns-in-Misses c = record { put = rw c.enum_told-1.given.1 c.put_phrase.ensures.put; upper_bound = search rules }
+
+pub returns-in-Holds : goal.returns-in-Holds
+unfolding verdict_words
+returns-in-Holds c = let is = c.verdict-1.given.1 in
+    record { put = rw is (c.put_phrase-end.ensures.put then c.put_delay.ensures.put); upper_bound = search rules }

@@ -1,0 +1,12 @@
+-- `put_delay` meets its contract. Assumes nothing.
+use borrow.Author.Rules.{rules}
+use Rattle.rules.specs.Listing.{delay_word}
+use Rattle.words.proofs.put_delay.Goals as goal
+
+pub returns-in-Request : goal.returns-in-Request
+unfolding delay_word
+returns-in-Request c = record { put = rw c.enum_told-1.given.1 c.put_phrase.ensures.put; upper_bound = search rules }
+
+pub returns-in-Job : goal.returns-in-Job
+unfolding delay_word
+returns-in-Job c = record { put = rw c.enum_told-in-Job-1.given.1 c.put_phrase-in-Job.ensures.put; upper_bound = search rules }
