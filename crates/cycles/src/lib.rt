@@ -3,7 +3,7 @@
 
 ghost use Rattle.std.specs.Prelude.{◌≡◌, ◌+◌, ◌-◌, ◌/◌, ◌<◌, ◌≤◌, get_or};
 ghost use Rattle.laws.specs.Idioms.{◌⊖◌, larger};
-ghost use Rattle.rules.specs.Timing.{WL, BL, tWTR};
+ghost use Rattle.rules.specs.Timing as Timing;
 ghost use Rattle.rules.specs.Delays.{pre, act, readwrite};
 
 use basics::most;
@@ -64,7 +64,7 @@ fn larger(a: u64, x: u64, y: u64) -> u64
 
 // WL + BL/2 + tWTR: from a write to a read.
 pub fn turn(row: [u16; 15]) -> u64
-    ensures { (result ≡ WL row + BL row / 2 + tWTR row) × (result ≤ 163837) }
+    ensures { (result ≡ Timing.WL row + Timing.BL row / 2 + Timing.tWTR row) × (result ≤ 163837) }
 {
     figure(row, WL) + figure(row, BL) / 2 + figure(row, TWTR)
 }

@@ -5,8 +5,8 @@ use borrow.Author.Rules.{rules}
 use Rattle.laws.proofs.Parts.{number-part, number-one}
 use Rattle.lent_bytes.proofs.le16.Goals as goal
 
-pub UNKNOWN-overflow-add-result-2 : goal.UNKNOWN-overflow-add-result-2
-UNKNOWN-overflow-add-result-2 c = let a = c.args in omega (arith, c.shared_slice_known-2-1.given a.at, c.shared_slice_known-2-1.given (a.at + 1))
+pub overflow_add-result-2 : goal.overflow_add-result-2
+overflow_add-result-2 c = let a = c.args in omega (arith, c.shared_slice_known-2-1.given a.at, c.shared_slice_known-2-1.given (a.at + 1))
 
 pub returns : goal.returns
 returns c =

@@ -42,20 +42,20 @@ unfolding tasks_difference
 returns-then-d-ne0 c =
     let l = c.loop-i in
     let a = c.args in
-    left-hit (at a.t1 a.t2) a.t1.tasks l.i l.invariant.1 (here a.t1 a.t2 l.i c.task_difference-d.ensures) (search rules) c.if-d-ne0.true
+    left-hit (at a.older a.newer) a.older.tasks l.i l.invariant.1 (here a.older a.newer l.i c.task_difference-d.ensures) (search rules) c.if-d-ne0.true
 
 pub loop-i-preserved : goal.loop-i-preserved
 loop-i-preserved c =
     let l = c.loop-i in
     let a = c.args in
-    (search rules, left-next (at a.t1 a.t2) a.t1.tasks l.i l.invariant.1 (here a.t1 a.t2 l.i c.task_difference-d.ensures) (search rules) c.if-d-ne0.false)
+    (search rules, left-next (at a.older a.newer) a.older.tasks l.i l.invariant.1 (here a.older a.newer l.i c.task_difference-d.ensures) (search rules) c.if-d-ne0.false)
 
 pub returns : goal.returns
 unfolding tasks_difference
 returns c =
     let l = c.loop-i in
     let a = c.args in
-    left-none (at a.t1 a.t2) a.t1.tasks l.i l.invariant.1 c.nothing-2.ensures (search rules)
+    left-none (at a.older a.newer) a.older.tasks l.i l.invariant.1 c.nothing-2.ensures (search rules)
 
 pub loop-i-init : goal.loop-i-init
 loop-i-init c = (search rules, left-all _ _)

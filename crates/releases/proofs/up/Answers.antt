@@ -27,11 +27,11 @@ counted s is =
 pub returns-then-last-period : goal.returns-then-last-period
 returns-then-last-period c =
     let p = c.requires.t_bound.1 in
-    counted c.before.before (guessed 0 {over = c.wrapping_sub_u64-last.result} c.wrapping_sub_u64-last.ensures (omega (arith, p.high, c.if-last-period.true)) (omega arith) p.high (search rules))
+    counted c.before.before (guessed 0 {over = c.wrapping_sub_u64-last.result} c.wrapping_sub_u64-last.ensures.value (omega (arith, p.high, c.if-last-period.true)) (omega arith) p.high (search rules))
 
 pub returns-then-over-period : goal.returns-then-over-period
 returns-then-over-period c =
-    counted c.before.before.before.before (guessed (guess c.before.before.before.before) c.wrapping_sub_u64-last.ensures c.wrapping_sub_u64-over.ensures (below-high c.before.before.before.before) c.requires.t_bound.1.high (search rules))
+    counted c.before.before.before.before (guessed (guess c.before.before.before.before) c.wrapping_sub_u64-last.ensures.value c.wrapping_sub_u64-over.ensures.value (below-high c.before.before.before.before) c.requires.t_bound.1.high (search rules))
 
 pub overflow_mul-guess : goal.overflow_mul-guess
 overflow_mul-guess c = omega (arith, product_high c.before.before)

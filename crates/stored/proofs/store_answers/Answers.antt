@@ -9,7 +9,9 @@ use Rattle.stored.proofs.store_answers.Goals.{At-loop-i}
 use Rattle.stored.proofs.store_answers.Goals as goal
 
 pub returns-then-short : goal.returns-then-short
-returns-then-short c = too_short_lem _ (sym c.short.ensures ∙ c.if-short.true) c.refused.ensures
+returns-then-short c =
+    let h = too_short_lem _ (sym c.short.ensures ∙ c.if-short.true) c.refused.ensures in
+    record { value = h.0; stored = h.1 }
 
 pub loop-i-init : goal.loop-i-init
 loop-i-init c = record {
@@ -35,14 +37,7 @@ pub loop-i-preserved : goal.loop-i-preserved
 loop-i-preserved c =
     rw (c.bound_of.ensures, c.by_number.ensures) (storing_next c.loop-i.invariant (few c.before.before.before.before) (search rules))
 
-pub shape_of-bounds : goal.shape_of-bounds
-shape_of-bounds c = (lengths c.loop-i.invariant (few c.before.before)).0
-
-pub shape_of-rounds : goal.shape_of-rounds
-shape_of-rounds c = (lengths c.loop-i.invariant (few c.before.before)).1
-
-pub shape_of-by : goal.shape_of-by
-shape_of-by c = (lengths c.loop-i.invariant (few c.before.before)).2
-
 pub returns : goal.returns
-returns c = storing_done c.loop-i.invariant (few c.before.before) (omega arith) c.refused-2.ensures
+returns c =
+    let h = storing_done c.loop-i.invariant (few c.before.before) (omega arith) c.refused-2.ensures in
+    record { value = h.0; stored = h.1 }

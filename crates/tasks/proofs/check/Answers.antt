@@ -11,7 +11,7 @@ use Rattle.rules.specs.declared.Table.{Table}
 use Rattle.rules.specs.Tasks.{no_task, task_of}
 use Rattle.rules.specs.Refusals.{check_tasks}
 use Rattle.tasks.proofs.Seen.{SeenAll, seen_none, seen_task, seen_all}
-use Rattle.tasks.proofs.check.Goals.{Start}
+use Rattle.tasks.proofs.check.Goals.{After-noted-seen, then-i-lt32, else-i-lt32}
 use Rattle.tasks.proofs.check.Goals as goal
 
 -- place i has task i + 1, and beyond the array there is none
@@ -21,19 +21,10 @@ here t i e = let same : i + 1 - 1 ≡ i = omega arith in rw same e
 beyond : (t : Table) (i : ℕ) {x : Task} → length t.task ≤ i → x ≡ no_task → x ≡ task_of t (i + 1)
 beyond t i h e = here t i (e ∙ sym (get_or-eq_default t.task no_task {n = i} h))
 
-table-long : (c : Start) → length c.args.t.task ≡ 32
+table-long : (c : After-noted-seen) → length c.args.t.task ≡ 32
 table-long c = search (rules, unmapped)
 
-pub loop-i-init : goal.loop-i-init
-loop-i-init c = rw c.no_faults_lem.ensures (seen_none _ _ _)
 
-pub loop-i-preserved : goal.loop-i-preserved
-loop-i-preserved c =
-    let t = c.args.t in
-    let long = table-long c.before.before.before.before.before.before in
-    seen_task t.cores (task_of t) t.tasks c.loop-i.invariant (omega arith)
-    (⊎_elim (λ w. here t c.loop-i.i w.2) (λ w. beyond t c.loop-i.i (omega arith) (w.1 ∙ c.no_task-x.ensures)) c.if-i-lt32.branch)
-    c.noted-seen.ensures
 
 pub returns : goal.returns
 unfolding check_tasks
@@ -50,3 +41,14 @@ overflow_add-i-in-loop-i c = omega arith
 
 pub loop-i-smaller : goal.loop-i-smaller
 loop-i-smaller c = omega arith
+
+pub loop-i-init : goal.loop-i-init
+loop-i-init c = rw c.no_faults-seen.ensures (seen_none _ _ _)
+
+pub loop-i-preserved : goal.loop-i-preserved
+loop-i-preserved c =
+    let t = c.args.t in
+    let long = table-long (goal.at.loop-i-preserved c).After-noted-seen in
+    seen_task t.cores (task_of t) t.tasks c.loop-i.invariant (omega arith)
+    (elim c.if-i-lt32.branch [ then-i-lt32 w ↦ here t c.loop-i.i w.x-is | else-i-lt32 w ↦ beyond t c.loop-i.i (omega arith) (w.x-is ∙ c.no_task-x.ensures) ])
+    c.noted-seen.ensures

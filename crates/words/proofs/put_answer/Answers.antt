@@ -6,9 +6,9 @@ use Rattle.words.proofs.put_answer.Goals as goal
 
 pub returns-in-Misses : goal.returns-in-Misses
 unfolding verdict_words
-returns-in-Misses c = record { put = rw c.enum_told-1.given.1 c.put_phrase.ensures.put; upper_bound = search rules }
+returns-in-Misses c = record { put = rw c.in-Misses.is c.put_phrase.ensures.put; upper_bound = search rules }
 
 pub returns-in-Holds : goal.returns-in-Holds
 unfolding verdict_words
-returns-in-Holds c = let is = c.verdict-1.given.1 in
+returns-in-Holds c = let is = c.in-Holds.is in
     record { put = rw is (c.put_phrase-end.ensures.put then c.put_delay.ensures.put); upper_bound = search rules }

@@ -1,0 +1,21 @@
+-- A run of figures, stored place by place. Assumes nothing.
+use Prim.Native.Nat.{◌-◌, ◌≤◌}
+use mathlib.Core.Path.{◌≡◌}
+use mathlib.Core.List.{map}
+use native.Mathlib.Omega.{arith}
+use borrow.Author.Rules.{rules}
+use lib.ListN.{length, take}
+use lib.Seq.{sets}
+use Rattle.laws.specs.Idioms.{joined, bytes_of}
+use Rattle.laws.proofs.Bytes.{bytes-length}
+use Rattle.laws.proofs.Runs.{store_next}
+use Rattle.encode.proofs.put_figures.Goals as goal
+
+pub loop-i-preserved : goal.loop-i-preserved
+loop-i-preserved c =
+    let l = c.loop-i in
+    let a = c.args in
+    (search rules, search rules, rw (c.put.ensures, l.invariant.2) (store_next (bytes_of 2) 2 (bytes-length 2) a.out.now a.at a.figures.now l.i 0 (omega arith)))
+
+pub returns : goal.returns
+returns c = let e : c.loop-i.i ≡ c.args.n = omega arith in rw e at c.loop-i.invariant.2
