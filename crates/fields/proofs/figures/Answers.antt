@@ -20,5 +20,5 @@ loop-i-preserved c =
     let a = c.args in
     (search rules, simp length-set l.invariant.1, rw (l.invariant.2, c.le16.ensures) (figure-next a.file.now a.at l.i a.into.now))
 
-pub UNKNOWN : goal.UNKNOWN
-UNKNOWN c = let e : c.loop-i.i ≡ c.args.n = omega arith in rw e at c.loop-i.invariant.2
+pub returns : goal.returns
+returns c = let e : c.loop-i.i ≡ c.args.n = omega arith in rw e at c.loop-i.invariant.2

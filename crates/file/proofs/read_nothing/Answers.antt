@@ -1,0 +1,6 @@
+-- The answer of a refused read. Assumes nothing.
+use borrow.Author.Rules.{rules}
+use Rattle.file.proofs.read_nothing.Goals as goal
+
+pub returns : goal.returns
+returns c = rw c.no_task-none.ensures
