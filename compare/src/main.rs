@@ -8,7 +8,6 @@ mod bus_cases;
 mod cases;
 mod comparer;
 mod ffi;
-mod library;
 mod pairs;
 mod run_cases;
 mod salvage_cases;
@@ -20,7 +19,6 @@ use std::process::ExitCode;
 
 use compare_model::answers::SHORT_OUTPUT;
 use comparer::{Comparer, Salvages, Tally, Verdicts};
-use library::Library;
 
 fn main() -> Result<ExitCode, Box<dyn Error>> {
     let words: Vec<String> = env::args().skip(1).collect();
@@ -32,7 +30,7 @@ fn main() -> Result<ExitCode, Box<dyn Error>> {
 }
 
 fn check(seed: u64, count: u64) -> Result<ExitCode, Box<dyn Error>> {
-    let mut on = Comparer::new(Box::new(ffi::Linked));
+    let mut on = Comparer::new();
     if let Err(difference) = cases::all(&mut on, seed, count) {
         println!("{difference}");
         println!("compare: after {} calls that agree (seed {seed}, {count} tables)", on.tally.calls - 1);
