@@ -1,5 +1,5 @@
 # What compare/run and compare/bench share: makes the library and this package. To be sourced at the repository's root.
-# Leaves in lib the archive, in out the folder of made files, and in linked whether the archive is linked or served.
+# Leaves in lib the archive, and in out the folder of made files.
 
 leave_out() {
     echo "compare: left out, since $1"
@@ -26,10 +26,9 @@ done
 out=$PWD/target/compare
 mkdir -p "$out"
 if [ -n "${COMPARE_LIB_DIR:-}" ]; then
-    lib=$COMPARE_LIB_DIR/libcapi.a linked=yes
+    lib=$COMPARE_LIB_DIR/libcapi.a
 else
-    quietly rt staticlib capi
-    lib=$PWD/target/staticlib/libcapi.a linked=no
-    [ "$(uname -m)" = x86_64 ] && linked=yes
+    quietly tools/staticlib
+    lib=$PWD/target/staticlib/libcapi.a
 fi
 (cd compare && quietly cargo build --release --offline)

@@ -11,8 +11,7 @@ use compare_model::judge::{Answer, Judge, Verdict};
 use compare_model::stops::Stops;
 use compare_model::table::TASKS;
 
-use crate::ffi::Linked;
-use crate::library::{Lent, Library};
+use crate::ffi::{Lent, Linked};
 
 /// Turns that each side has; the median counts.
 const TURNS: usize = 15;
@@ -208,14 +207,18 @@ fn judgement(file: &[u8], starts: &[u64]) -> Times {
 }
 
 fn library_read(file: &[u8]) -> u16 {
-    Linked.read(file).expect("a linked library answers")
+    Linked.read(file)
 }
 
 fn library_judge(file: &[u8], starts: &[u64]) -> (u16, [u64; TASKS], [u64; TASKS], [u8; TASKS]) {
     let (mut bounds, mut rounds, mut by) = ([0; TASKS], [0; TASKS], [0; TASKS]);
-    let code = Linked
-        .judge(file, starts, Lent::new(&mut bounds, TASKS), Lent::new(&mut rounds, TASKS), Lent::new(&mut by, TASKS))
-        .expect("a linked library answers");
+    let code = Linked.judge(
+        file,
+        starts,
+        Lent::new(&mut bounds, TASKS),
+        Lent::new(&mut rounds, TASKS),
+        Lent::new(&mut by, TASKS),
+    );
     (code, bounds, rounds, by)
 }
 
@@ -228,7 +231,7 @@ fn own_judge(file: &[u8], starts: &[u64]) -> (u16, [u64; TASKS], [u64; TASKS], [
 fn library_list(file: &[u8]) -> (usize, [u8; 2048]) {
     let mut out = [0; 2048];
     let room = out.len();
-    (Linked.list(file, Lent::new(&mut out, room)).expect("a linked library answers"), out)
+    (Linked.list(file, Lent::new(&mut out, room)), out)
 }
 
 fn own_list(file: &[u8]) -> (usize, [u8; 2048]) {

@@ -2,13 +2,12 @@
 
 use std::collections::BTreeMap;
 use std::fmt;
-use std::io;
 
 use compare_model::answers;
 use compare_model::gen::Rng;
 use compare_model::table::{Kind, SALVAGED_BIT};
 
-use crate::library::{Lent, Library};
+use crate::ffi::{Lent, Linked};
 
 /// The most bytes of a refusal's text.
 const LONGEST_REASON: usize = 66;
@@ -143,34 +142,33 @@ impl fmt::Debug for Salvage {
 }
 
 pub struct Comparer {
-    library: Box<dyn Library>,
     filler: Rng,
     pub tally: Tally,
 }
 
 impl Comparer {
-    pub fn new(library: Box<dyn Library>) -> Comparer {
-        Comparer { library, filler: Rng::new(0), tally: Tally::default() }
+    pub fn new() -> Comparer {
+        Comparer { filler: Rng::new(0), tally: Tally::default() }
     }
 
     /// `ryb_read`, and `ryb_whole`, which gives the same refusal where that is one of 1 to 4, and else none; answers the former's, 0 where
     /// accepted.
     pub fn read(&mut self, file: &[u8]) -> Result<u16, Difference> {
         let own = answers::read(file);
-        let theirs = self.library.read(file);
+        let theirs = Linked.read(file);
         self.count(own);
         let read = same(theirs, own, file, || "ryb_read".to_owned())?;
         let whole = self.whole(file)?;
         self.tally.only_whole += u64::from(whole == 0 && read != 0);
         let first_part = if read <= 4 { read } else { 0 };
-        same(Ok(whole), first_part, file, || format!("ryb_whole, where ryb_read gives {read}"))?;
+        same(whole, first_part, file, || format!("ryb_whole, where ryb_read gives {read}"))?;
         Ok(read)
     }
 
     /// `ryb_whole`; answers the refusal, 0 where the file came whole.
     fn whole(&mut self, file: &[u8]) -> Result<u16, Difference> {
         let own = answers::whole(file);
-        let theirs = self.library.whole(file);
+        let theirs = Linked.whole(file);
         self.count(own);
         same(theirs, own, file, || "ryb_whole".to_owned())
     }
@@ -178,14 +176,14 @@ impl Comparer {
     /// The same of a file that was whole, and was then cut short or had one byte altered: it isn't whole (RULES 7.6).
     pub fn read_damaged(&mut self, file: &[u8]) -> Result<u16, Difference> {
         let read = self.read(file)?;
-        same(Ok((1..=4).contains(&read)), true, file, || format!("ryb_read of a damaged file, which gives {read}"))?;
+        same((1..=4).contains(&read), true, file, || format!("ryb_read of a damaged file, which gives {read}"))?;
         Ok(read)
     }
 
     /// `ryb_tasks`; answers the count, 0 where refused.
     pub fn tasks(&mut self, file: &[u8]) -> Result<usize, Difference> {
         let own = answers::tasks(file);
-        let theirs = self.library.tasks(file);
+        let theirs = Linked.tasks(file);
         self.tally.calls += 1;
         same(theirs, own, file, || "ryb_tasks".to_owned())
     }
@@ -203,14 +201,14 @@ impl Comparer {
         );
         own.code = code.into();
         let mut theirs = blank;
-        let answered = self.library.judge(
+        let answered = Linked.judge(
             file,
             starts,
             Lent::new(&mut theirs.bounds, reaches.bounds),
             Lent::new(&mut theirs.rounds, reaches.rounds),
             Lent::new(&mut theirs.by, reaches.by),
         );
-        let theirs = answered.map(|code| Judged { code: code.into(), ..theirs });
+        theirs.code = answered.into();
         self.count(code);
         self.count_answers(file, &own);
         same(theirs, own, file, || format!("ryb_judge from {starts:?} into {reaches:?}"))?;
@@ -223,8 +221,7 @@ impl Comparer {
         let mut own = Listed { length: 0, out: out.clone() };
         own.length = answers::list(file, &mut own.out[..room]);
         let mut theirs = Listed { length: 0, out };
-        let length = self.library.list(file, Lent::new(&mut theirs.out, room));
-        let theirs = length.map(|length| Listed { length, ..theirs });
+        theirs.length = Linked.list(file, Lent::new(&mut theirs.out, room));
         self.tally.calls += 1;
         self.tally.listings += u64::from(own.length > 0);
         self.tally.too_short += u64::from(own.length == 0);
@@ -236,7 +233,7 @@ impl Comparer {
     /// `ryb_view`; answers the refusal, 0 where there is such a record.
     pub fn view(&mut self, file: &[u8], number: u8) -> Result<u16, Difference> {
         let own = answers::view(file, number);
-        let theirs = self.library.view(file, number);
+        let theirs = Linked.view(file, number);
         self.count(own);
         same(theirs, own, file, || format!("ryb_view of task {number}"))
     }
@@ -244,7 +241,7 @@ impl Comparer {
     /// `ryb_record`; answers the offset, 0 where refused.
     pub fn record(&mut self, file: &[u8], number: u8) -> Result<usize, Difference> {
         let own = answers::record(file, number);
-        let theirs = self.library.record(file, number);
+        let theirs = Linked.record(file, number);
         self.tally.calls += 1;
         self.tally.records += u64::from(own > 0);
         same(theirs, own, file, || format!("ryb_record of task {number}"))
@@ -262,14 +259,13 @@ impl Comparer {
             &mut own.by[..reaches.by],
         );
         let mut theirs = blank;
-        let answered = self.library.carry(
+        theirs.code = Linked.carry(
             older,
             newer,
             Lent::new(&mut theirs.bounds, reaches.bounds),
             Lent::new(&mut theirs.rounds, reaches.rounds),
             Lent::new(&mut theirs.by, reaches.by),
         );
-        let theirs = answered.map(|code| Judged { code, ..theirs });
         self.count(own.code as u16);
         self.count_answers(newer, &own);
         let code = own.code;
@@ -280,7 +276,7 @@ impl Comparer {
     /// `ryb_worsens`; answers 1 where both files are accepted and the newer is the older one worsened.
     pub fn worsens(&mut self, older: &[u8], newer: &[u8]) -> Result<u8, Difference> {
         let own = answers::worsens(older, newer);
-        let theirs = self.library.worsens(older, newer);
+        let theirs = Linked.worsens(older, newer);
         self.tally.calls += 1;
         self.tally.pairs += 1;
         self.tally.worsened += u64::from(own);
@@ -293,15 +289,14 @@ impl Comparer {
         let mut own = Salvage { word: 0, out: out.clone() };
         own.word = answers::salvage(file, &mut own.out[..room]);
         let mut theirs = Salvage { word: 0, out };
-        let word = self.library.salvage(file, Lent::new(&mut theirs.out, room));
-        let theirs = word.map(|word| Salvage { word, ..theirs });
+        theirs.word = Linked.salvage(file, Lent::new(&mut theirs.out, room));
         self.count_salvage(file, &own);
         same(theirs, own, file, || format!("ryb_salvage into {room} bytes"))
     }
 
     /// `ryb_reason`, whose words are the library's own: a text of some printable bytes, which fits its own length and no less. Answers it.
     pub fn reason(&mut self, number: u8) -> Result<Vec<u8>, Difference> {
-        let long = self.reason_into(number, 200)?;
+        let long = self.reason_into(number, 200);
         let text = long.out.get(..long.length).unwrap_or_default().to_vec();
         let fits = (1..=LONGEST_REASON).contains(&text.len());
         if !fits || !text.iter().all(|byte| (b' '..=b'~').contains(byte)) {
@@ -317,14 +312,11 @@ impl Comparer {
         Ok(text)
     }
 
-    fn reason_into(&mut self, number: u8, room: usize) -> Result<Listed, Difference> {
+    fn reason_into(&mut self, number: u8, room: usize) -> Listed {
         let mut out = self.filled_bytes(room);
-        let length = self.library.reason(number, Lent::new(&mut out, room));
+        let length = Linked.reason(number, Lent::new(&mut out, room));
         self.tally.calls += 1;
-        let failed = |error| {
-            Difference::of(format!("ryb_reason of {number}"), format!("gave no answer: {error}"), String::new())
-        };
-        length.map(|length| Listed { length, out }).map_err(failed)
+        Listed { length, out }
     }
 
     /// The text whole, or nothing where the room is too short for it; the bytes behind it as they were.
@@ -336,8 +328,7 @@ impl Comparer {
             own.out[..text.len()].copy_from_slice(text);
         }
         let mut theirs = Listed { length: 0, out: blank };
-        let length = self.library.reason(number, Lent::new(&mut theirs.out, room));
-        let theirs = length.map(|length| Listed { length, ..theirs });
+        theirs.length = Linked.reason(number, Lent::new(&mut theirs.out, room));
         self.tally.calls += 1;
         same(theirs, own, &[], || format!("ryb_reason of {number} into {room} bytes"))?;
         Ok(())
@@ -407,17 +398,10 @@ fn hexadecimal(bytes: &[u8]) -> String {
     bytes.iter().map(|byte| format!("{byte:02x}")).collect()
 }
 
-/// The answer, where both gave it.
-fn same<T: PartialEq + fmt::Debug>(
-    theirs: io::Result<T>,
-    own: T,
-    file: &[u8],
-    call: impl Fn() -> String,
-) -> Result<T, Difference> {
-    let library = match theirs {
-        Ok(theirs) if theirs == own => return Ok(own),
-        Ok(theirs) => format!("{theirs:?}"),
-        Err(error) => format!("gave no answer: {error}"),
-    };
-    Err(Difference { call: call(), file: file.to_vec(), library, own: format!("{own:?}") })
+/// The answer, where both gave the same.
+fn same<T: PartialEq + fmt::Debug>(theirs: T, own: T, file: &[u8], call: impl Fn() -> String) -> Result<T, Difference> {
+    if theirs == own {
+        return Ok(own);
+    }
+    Err(Difference { call: call(), file: file.to_vec(), library: format!("{theirs:?}"), own: format!("{own:?}") })
 }

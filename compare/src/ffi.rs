@@ -1,9 +1,6 @@
 //! The library linked into this program. The only unsafe code is here.
 
-use std::io;
 use std::ptr;
-
-use crate::library::{Lent, Library};
 
 #[link(name = "capi", kind = "static")]
 extern "C" {
@@ -42,34 +39,42 @@ extern "C" {
     fn ryb_reason(number: u8, out: *mut u8, out_n: usize) -> usize;
 }
 
+/// A buffer of which the first `reach` places are lent. The places after them show a write behind the end.
+pub struct Lent<'a, T> {
+    pub all: &'a mut [T],
+    pub reach: usize,
+}
+
+impl<'a, T> Lent<'a, T> {
+    /// The first `reach` places of a buffer.
+    pub fn new(all: &'a mut [T], reach: usize) -> Lent<'a, T> {
+        assert!(reach <= all.len());
+        Lent { all, reach }
+    }
+}
+
+/// The functions of `include/ryeobadum.h`.
 pub struct Linked;
 
-impl Library for Linked {
-    fn read(&mut self, file: &[u8]) -> io::Result<u16> {
+impl Linked {
+    pub fn read(&self, file: &[u8]) -> u16 {
         // SAFETY: the pointer and the length are those of a slice.
-        Ok(unsafe { ryb_read(start(file), file.len()) })
+        unsafe { ryb_read(start(file), file.len()) }
     }
 
-    fn whole(&mut self, file: &[u8]) -> io::Result<u16> {
+    pub fn whole(&self, file: &[u8]) -> u16 {
         // SAFETY: the pointer and the length are those of a slice.
-        Ok(unsafe { ryb_whole(start(file), file.len()) })
+        unsafe { ryb_whole(start(file), file.len()) }
     }
 
-    fn tasks(&mut self, file: &[u8]) -> io::Result<usize> {
+    pub fn tasks(&self, file: &[u8]) -> usize {
         // SAFETY: the pointer and the length are those of a slice.
-        Ok(unsafe { ryb_tasks(start(file), file.len()) })
+        unsafe { ryb_tasks(start(file), file.len()) }
     }
 
-    fn judge(
-        &mut self,
-        file: &[u8],
-        starts: &[u64],
-        bounds: Lent<u64>,
-        rounds: Lent<u64>,
-        by: Lent<u8>,
-    ) -> io::Result<u16> {
+    pub fn judge(&self, file: &[u8], starts: &[u64], bounds: Lent<u64>, rounds: Lent<u64>, by: Lent<u8>) -> u16 {
         // SAFETY: the pointers and the lengths are those of slices, and no two of the mutable ones overlap.
-        Ok(unsafe {
+        unsafe {
             ryb_judge(
                 start(file),
                 file.len(),
@@ -82,34 +87,27 @@ impl Library for Linked {
                 lent_start(by.all, by.reach),
                 by.reach,
             )
-        })
+        }
     }
 
-    fn list(&mut self, file: &[u8], out: Lent<u8>) -> io::Result<usize> {
+    pub fn list(&self, file: &[u8], out: Lent<u8>) -> usize {
         // SAFETY: the pointers and the lengths are those of slices.
-        Ok(unsafe { ryb_list(start(file), file.len(), lent_start(out.all, out.reach), out.reach) })
+        unsafe { ryb_list(start(file), file.len(), lent_start(out.all, out.reach), out.reach) }
     }
 
-    fn view(&mut self, file: &[u8], number: u8) -> io::Result<u16> {
+    pub fn view(&self, file: &[u8], number: u8) -> u16 {
         // SAFETY: the pointer and the length are those of a slice.
-        Ok(unsafe { ryb_view(start(file), file.len(), number) })
+        unsafe { ryb_view(start(file), file.len(), number) }
     }
 
-    fn record(&mut self, file: &[u8], number: u8) -> io::Result<usize> {
+    pub fn record(&self, file: &[u8], number: u8) -> usize {
         // SAFETY: the pointer and the length are those of a slice.
-        Ok(unsafe { ryb_record(start(file), file.len(), number) })
+        unsafe { ryb_record(start(file), file.len(), number) }
     }
 
-    fn carry(
-        &mut self,
-        older: &[u8],
-        newer: &[u8],
-        bounds: Lent<u64>,
-        rounds: Lent<u64>,
-        by: Lent<u8>,
-    ) -> io::Result<u32> {
+    pub fn carry(&self, older: &[u8], newer: &[u8], bounds: Lent<u64>, rounds: Lent<u64>, by: Lent<u8>) -> u32 {
         // SAFETY: the pointers and the lengths are those of slices, and no two of the mutable ones overlap.
-        Ok(unsafe {
+        unsafe {
             ryb_carry(
                 start(older),
                 older.len(),
@@ -122,22 +120,22 @@ impl Library for Linked {
                 lent_start(by.all, by.reach),
                 by.reach,
             )
-        })
+        }
     }
 
-    fn worsens(&mut self, older: &[u8], newer: &[u8]) -> io::Result<u8> {
+    pub fn worsens(&self, older: &[u8], newer: &[u8]) -> u8 {
         // SAFETY: the pointers and the lengths are those of slices.
-        Ok(unsafe { ryb_worsens(start(older), older.len(), start(newer), newer.len()) })
+        unsafe { ryb_worsens(start(older), older.len(), start(newer), newer.len()) }
     }
 
-    fn salvage(&mut self, file: &[u8], out: Lent<u8>) -> io::Result<u64> {
+    pub fn salvage(&self, file: &[u8], out: Lent<u8>) -> u64 {
         // SAFETY: the pointers and the lengths are those of slices.
-        Ok(unsafe { ryb_salvage(start(file), file.len(), lent_start(out.all, out.reach), out.reach) })
+        unsafe { ryb_salvage(start(file), file.len(), lent_start(out.all, out.reach), out.reach) }
     }
 
-    fn reason(&mut self, number: u8, out: Lent<u8>) -> io::Result<usize> {
+    pub fn reason(&self, number: u8, out: Lent<u8>) -> usize {
         // SAFETY: the pointer and the length are those of a slice.
-        Ok(unsafe { ryb_reason(number, lent_start(out.all, out.reach), out.reach) })
+        unsafe { ryb_reason(number, lent_start(out.all, out.reach), out.reach) }
     }
 }
 

@@ -1,21 +1,16 @@
 //! Compares the proved library with the own reading, and measures both.
 //!
-//! `compare check SEED CASES [SERVE WORDS..]` compares; `SERVE` is the command of a program that serves the library, where it
-//! isn't linked. `compare bench SEED` measures the linked library.
+//! `compare check SEED CASES` compares, and `compare bench SEED` measures.
 
-#[cfg(linked)]
 mod bench;
 mod border_cases;
 mod bus_cases;
 mod cases;
 mod comparer;
-#[cfg(linked)]
 mod ffi;
-mod library;
 mod pairs;
 mod run_cases;
 mod salvage_cases;
-mod served;
 
 use std::collections::BTreeMap;
 use std::env;
@@ -24,19 +19,18 @@ use std::process::ExitCode;
 
 use compare_model::answers::SHORT_OUTPUT;
 use comparer::{Comparer, Salvages, Tally, Verdicts};
-use library::Library;
 
 fn main() -> Result<ExitCode, Box<dyn Error>> {
     let words: Vec<String> = env::args().skip(1).collect();
     match words.iter().map(String::as_str).collect::<Vec<_>>().as_slice() {
-        ["check", seed, cases, ..] => check(seed.parse()?, cases.parse()?, &words[3..]),
+        ["check", seed, cases] => check(seed.parse()?, cases.parse()?),
         ["bench", seed] => bench(seed.parse()?),
-        _ => Err("usage: compare check SEED CASES [SERVE WORDS..], or compare bench SEED".into()),
+        _ => Err("usage: compare check SEED CASES, or compare bench SEED".into()),
     }
 }
 
-fn check(seed: u64, count: u64, serve: &[String]) -> Result<ExitCode, Box<dyn Error>> {
-    let mut on = Comparer::new(reach(serve)?);
+fn check(seed: u64, count: u64) -> Result<ExitCode, Box<dyn Error>> {
+    let mut on = Comparer::new();
     if let Err(difference) = cases::all(&mut on, seed, count) {
         println!("{difference}");
         println!("compare: after {} calls that agree (seed {seed}, {count} tables)", on.tally.calls - 1);
@@ -120,31 +114,7 @@ fn never_met(refusals: impl IntoIterator<Item = u16>, met: &BTreeMap<u16, u64>) 
     (!never.is_empty()).then(|| format!("refusals {never:?} were never met"))
 }
 
-/// The served library where a command is given, else the linked one.
-fn reach(serve: &[String]) -> Result<Box<dyn Library>, Box<dyn Error>> {
-    if !serve.is_empty() {
-        return Ok(Box::new(served::Served::start(serve)?));
-    }
-    linked()
-}
-
-#[cfg(linked)]
-fn linked() -> Result<Box<dyn Library>, Box<dyn Error>> {
-    Ok(Box::new(ffi::Linked))
-}
-
-#[cfg(not(linked))]
-fn linked() -> Result<Box<dyn Library>, Box<dyn Error>> {
-    Err("the library isn't linked on this processor: give the command of a program that serves it".into())
-}
-
-#[cfg(linked)]
 fn bench(seed: u64) -> Result<ExitCode, Box<dyn Error>> {
     print!("{}", bench::report(seed));
     Ok(ExitCode::SUCCESS)
-}
-
-#[cfg(not(linked))]
-fn bench(_seed: u64) -> Result<ExitCode, Box<dyn Error>> {
-    Err("the library isn't linked on this processor, and a time under an emulator says nothing".into())
 }
