@@ -40,11 +40,11 @@ place_at l i = get_or l.begins (get_or l.core i 0 - 1) 0 + length (places_on l.c
 abbrev pub cost_at : Lent → ℕ → CoreCosts
 cost_at l i = entry no_costs l.board.costs (get_or l.core i 0)
 
-abbrev pub field_own : Lent → ℕ → Own
-field_own l i = own_of l.board.cores (cost_at l i) l.latest l.begins l.execs l.asks (get_or l.core i 0 - 1) i (place_at l i)
+abbrev pub own_at : Lent → ℕ → Own
+own_at l i = own_of l.board.cores (cost_at l i) l.latest l.begins l.execs l.asks (get_or l.core i 0 - 1) i (place_at l i)
 
 abbrev pub terms_at : Lent → ℕ → Terms
-terms_at l i = terms_of (field_own l i) l.begins l.periods l.execs l.asks
+terms_at l i = terms_of (own_at l i) l.begins l.periods l.execs l.asks
 
 -- what judging task number k gives, from its start
 unfoldable pub climbed_at : Lent → List ℕ → ℕ → Climbed
