@@ -32,8 +32,8 @@ module _ (l : Lent) (j : Judgeable l) (i : ℕ) (here : i < l.board.tasks) (d : 
         each = λ q h. record { weight-high = rw cost_at_lem ((j.ready i 0 here zero-le).fair.groups.each q h).weight-high; requests-high = (so.each q h).high };
       }
 
-  pub own_at : {own : Own} {place : ℕ} → place ≡ place_at l i → own ≡ own_of l.board.cores cost l.latest l.begins l.execs l.asks p i place → own ≡ own_at l i
-  own_at at is = is ∙ rw (at, cost_at_lem)
+  pub own_at_lem : {own : Own} {place : ℕ} → place ≡ place_at l i → own ≡ own_of l.board.cores cost l.latest l.begins l.execs l.asks p i place → own ≡ own_at l i
+  own_at_lem at is = is ∙ rw (at, cost_at_lem)
 
 -- its terms can be judged, and what that gives
 module _ (l : Lent) (i : ℕ) {own : Own} (is : own ≡ own_at l i) where

@@ -38,9 +38,9 @@ pub returns-then-not-is_sound : goal.returns-then-not-is_sound
 unfolding kept
 returns-then-not-is_sound c =
     let l = c.loop-i in
-    counted_stop _ _ _ l.invariant.1 (omega arith) (sym (looked (goal.at.returns-then-not-is_sound c).After-is_sound) ∙ not-true _ c.if-not-is_sound.true)
+    counted_stop _ _ _ l.invariant.1 (omega arith) (sym (looked (goal.at.returns-then-not-is_sound c).After-is_sound) ∙ c.if-not-is_sound.true)
 
 pub loop-i-preserved : goal.loop-i-preserved
 loop-i-preserved c =
     let l = c.loop-i in
-    (omega arith, counted_next _ _ _ l.invariant.1 (omega arith) (sym (looked (goal.at.loop-i-preserved c).After-is_sound) ∙ not-false _ c.if-not-is_sound.false))
+    (omega arith, counted_next _ _ _ l.invariant.1 (omega arith) (sym (looked (goal.at.loop-i-preserved c).After-is_sound) ∙ c.if-not-is_sound.false))

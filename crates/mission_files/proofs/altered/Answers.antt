@@ -13,5 +13,5 @@ use Rattle.mission_files.proofs.altered.Goals as goal
 pub returns : goal.returns
 returns c = let a = c.args in
     let are = c.alter.ensures in
-    let bytes : (k : ℕ) → get_or a.file.now k 0 < 256 = λ k. omega (arith, c.type_inv.file k) in
+    let bytes : (k : ℕ) → get_or a.file.now k 0 < 256 = λ k. omega (arith, c.slice_known-1.given k) in
     record { file_after = (are, c.check.ensures); result_value = refused-then point_one.read a.file.now a.i a.b bytes (search rules) are (c.check.ensures ∙ sym (refusal_read _)) }

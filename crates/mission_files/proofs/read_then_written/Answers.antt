@@ -15,4 +15,4 @@ returns c =
     let a = c.args in
     let byte : (i : ℕ) → get_or a.file.now i 0 < 256 = λ i. omega (arith, c.type_inv.file i) in
     rw (wrote.answered, wrote.stored, c.read-read.ensures)
-    (refl, (refl, λ whole room. return_in_place.written_read a.file.now a.out.now (bytes_by_place a.file.now byte) whole room))
+    (record { value = refl; out_after = refl; written_back = λ whole room. return_in_place.written_read a.file.now a.out.now (bytes_by_place a.file.now byte) whole room })

@@ -15,7 +15,7 @@ use Rattle.mission_files.proofs.written_then_read.Goals as goal
 shape : (c : After-read) → Shape c.args.t
 shape c = record { figures = search (rules, unmapped); sets = search (rules, unmapped); tasks = search (rules, unmapped) }
 
-fits : (c : After-room-2-1) → c.write-written.result.length ≤ length c.write-written.new.out.0
+fits : (c : After-room-2-1) → c.write-written.result.length ≤ length c.write-written.new.out
 fits c =
     let answered = ap (λ (w : Written). w.length) c.write-written.ensures.answered in
     omega (arith, c.write-written.auto, answered, return_in_place.fits c.args.t (replicate 990 0))
