@@ -1,0 +1,26 @@
+-- The table of the kept records, written. Assumes nothing.
+use borrow.Author.Rules.{rules}
+use native.Mathlib.Omega.{arith}
+use Rattle.rules.specs.Salvage.{salvaged_table}
+use Rattle.fields.proofs.Steps.{header-there}
+use Rattle.kept.proofs.Kept.{kept_reach}
+use Rattle.salvaging.proofs.Links.{reached, board-counts}
+use Rattle.salvaging.proofs.write_kept.Goals as goal
+
+
+pub returns : goal.returns
+unfolding salvaged_table
+returns c =
+    let is = c.requires.n_value in
+    rw (c.table-table.ensures, c.mark_salvaged.ensures, is) at c.write.ensures
+
+pub bounds-file-3 : goal.bounds-file-3
+bounds-file-3 c = omega (arith, header-there c.args.file.now (reached _ c.requires.file_value))
+
+pub mark_salvaged-requires : goal.mark_salvaged-requires
+mark_salvaged-requires c = (board-counts _ c.requires.file_value_2).2
+
+pub table-table-requires : goal.table-table-requires
+table-table-requires c = let (late, (board, is)) = c.requires in
+    let (cores, few, _) = board-counts _ board in
+    record { file_bound = (cores, rw is few); n_in_bounds = rw is (kept_reach _ late) }
