@@ -15,11 +15,8 @@ fn plus(a: u64, b: u64) -> u64 {
 
 fn rounds(answers: [Answer; 32]) -> u64 {
     let mut sum: u64 = 0;
-    let mut i: usize = 0;
-    while i < 32 {
-        let answer = answers[i];
+    for answer in &answers {
         sum = plus(sum, answer.rounds);
-        i += 1;
     }
     sum
 }
