@@ -11,6 +11,7 @@ pub use notes::{explain, note, note_number, note_place, part};
 use std::env::{Env, FillError};
 use std::fs::OpenOptions;
 use std::io::Write;
+use std::{fs, io};
 
 // The first byte of a word: 0 where it has none, nothing where there is no such word. Of a longer one the others have no room, which is no error here.
 fn first_byte(rt: HostRuntime, i: usize) -> Option<u8> {
@@ -39,16 +40,31 @@ pub fn usage(rt: HostRuntime, line: &[u8]) -> u8 {
     3
 }
 
-// How the program ended, from 0 to 3 (a larger number is told as 3): one digit on descriptor 9, since a program has no exit status. Where that is not open
-// nothing is told. std has no descriptor by its number, so it is opened anew by its name: for reading too, or a pipe that nobody reads would hold the
-// program up, and to write behind what is there.
-pub fn tell(rt: HostRuntime, status: u8) {
-    let digit = if status < 3 { b'0' + status } else { b'3' };
-    let opened = OpenOptions::new()
+// Descriptor 9 by its name: std has no descriptor by its number.
+const STATUS: &str = "/proc/self/fd/9";
+
+// That name is a link, which may be written where the descriptor is open for writing.
+fn takes_status(rt: HostRuntime) -> bool {
+    match fs::symlink_metadata(&rt, STATUS) {
+        Ok(link) => !link.permissions().readonly(),
+        Err(_) => false,
+    }
+}
+
+// Opened anew: for reading too, since a pipe that nobody reads would hold the program up, and to write behind what is there.
+fn write_status(rt: HostRuntime, digit: u8) -> io::Result<()> {
+    let mut to = OpenOptions::new()
         .read(true)
         .append(true)
-        .open(&rt, "/proc/self/fd/9");
-    if let Ok(mut to) = opened {
-        let _told = to.write_all(&[digit]);
+        .open(&rt, STATUS)?;
+    to.write_all(&[digit])
+}
+
+// How the program ended, from 0 to 3 (a larger number is told as 3): one digit on descriptor 9, since a program has no exit status. Where that is not open
+// for writing nothing is told.
+pub fn tell(rt: HostRuntime, status: u8) {
+    let digit = if status < 3 { b'0' + status } else { b'3' };
+    if takes_status(rt) {
+        let _told = write_status(rt, digit);
     }
 }
