@@ -1,5 +1,5 @@
 -- Each turn adds a byte to `rest`, and `rest` to `total`. Assumes nothing.
-use Rattle.std.proofs.Common.{length, ◌-◌, ◌*◌, ◌+◌, ◌≤◌}
+use Rattle.std.proofs.Common.{length, ◌*◌, ◌+◌, ◌≤◌}
 use Rattle.conform.proofs.weight.Given as goal
 
 abbrev pub invariant-loop-i : goal.invariant-loop-i
