@@ -2,9 +2,9 @@
 // spared, or what stood against it.
 #![tactic(auto)]
 
-use lent_bytes::front;
 use changes::Change;
 use console::{Got, note, note_number, part};
+use lent_bytes::front;
 use rules::{Answer, Picos, Refusal, Table};
 
 // ---- what was spared, or what stood against it
@@ -15,11 +15,8 @@ fn plus(a: u64, b: u64) -> u64 {
 
 fn rounds(answers: [Answer; 32]) -> u64 {
     let mut sum: u64 = 0;
-    let mut i: usize = 0;
-    while i < 32 {
-        let answer = answers[i];
+    for answer in &answers {
         sum = plus(sum, answer.rounds);
-        i += 1;
     }
     sum
 }
@@ -32,10 +29,10 @@ fn fresh_rounds(t: Table) -> u64 {
 }
 
 // `carry: 42 rounds from the older bounds, 114 fresh`
-fn note_spared(spent: u64, fresh: u64) {
-    note_number(b"carry: ", spent);
-    note_number(b" rounds from the older bounds, ", fresh);
-    note(b" fresh\n");
+fn note_spared(rt: HostRuntime, spent: u64, fresh: u64) {
+    note_number(rt, b"carry: ", spent);
+    note_number(rt, b" rounds from the older bounds, ", fresh);
+    note(rt, b" fresh\n");
 }
 
 // Whose figure differs, as `console::note_place` has the kinds: a bus table's timing figure or a DRAM table's, a core's, a task's.
@@ -48,16 +45,19 @@ fn kind(what: u8, bus: bool) -> u8 {
 }
 
 // `task 5's execution time`, by the difference's number from 1. A timing figure is named with its place.
-fn note_what(what: u8, place: u8, bus: bool) {
+fn note_what(rt: HostRuntime, what: u8, place: u8, bus: bool) {
     if what > 4 {
-        console::note_place(kind(what, bus), place);
+        console::note_place(rt, kind(what, bus), place);
     }
-    note(part(
-        b"the number of cores|the number of partitions|the number of tasks|the fourth byte||'s set|'s core|'s deadline|\
+    note(
+        rt,
+        part(
+            b"the number of cores|the number of partitions|the number of tasks|the fourth byte||'s set|'s core|'s deadline|\
         's execution time|'s request count|'s period",
-        b'|',
-        what,
-    ));
+            b'|',
+            what,
+        ),
+    );
 }
 
 fn rule(what: u8) -> u8 {
@@ -69,45 +69,49 @@ fn rule(what: u8) -> u8 {
 }
 
 // `carry: judged fresh: task 5's execution time was 330000000, is 300000000: it may only rise`
-fn note_difference(d: Change, bus: bool) {
-    note(b"carry: judged fresh: ");
-    note_what(d.what, d.place, bus);
-    note_number(b" was ", d.was);
-    note_number(b", is ", d.is);
-    note(part(
-        b": it must stay\n|: it may only rise\n|: it may only get shorter\n",
-        b'|',
-        rule(d.what),
-    ));
+fn note_difference(rt: HostRuntime, d: Change, bus: bool) {
+    note(rt, b"carry: judged fresh: ");
+    note_what(rt, d.what, d.place, bus);
+    note_number(rt, b" was ", d.was);
+    note_number(rt, b", is ", d.is);
+    note(
+        rt,
+        part(
+            b": it must stay\n|: it may only rise\n|: it may only get shorter\n",
+            b'|',
+            rule(d.what),
+        ),
+    );
 }
 
 // ---- the two files
 
-fn refuse(number: u8, was: Refusal, is: Refusal) -> u8 {
+fn refuse(rt: HostRuntime, number: u8, was: Refusal, is: Refusal) -> u8 {
     let mut out = [0u8; 29];
     let n = receipt::refused(number, &mut out);
-    if !console::say(b"carry: ", front(&out, n)) {
+    if !console::say(rt, b"carry: ", front(&out, n)) {
         return 3;
     }
-    console::explain(b"carry: ", 1, was.number, was.place);
-    console::explain(b"carry: ", 2, is.number, is.place);
+    console::explain(rt, b"carry: ", 1, was.number, was.place);
+    console::explain(rt, b"carry: ", 2, is.number, is.place);
     2
 }
 
 // The newer table's listing, and whether it was written.
-fn judge_again(older: Table, newer: Table) -> bool {
+fn judge_again(rt: HostRuntime, older: Table, newer: Table) -> bool {
     let again = rejudge::judge_carried(older, newer);
     let answers = again.answers;
     let mut out = [0u8; 3266];
     let n = listing::lines(newer, answers, &mut out);
-    if !console::say(b"carry: ", front(&out, n)) {
+    if !console::say(rt, b"carry: ", front(&out, n)) {
         return false;
     }
     if again.carried {
-        note_spared(rounds(answers), fresh_rounds(newer));
+        note_spared(rt, rounds(answers), fresh_rounds(newer));
     } else {
         // where their timing figures differ, both tables are of one kind
         note_difference(
+            rt,
             order::difference(older, newer),
             basics::says_bus(newer.fourth),
         );
@@ -115,47 +119,47 @@ fn judge_again(older: Table, newer: Table) -> bool {
     true
 }
 
-fn judge_files(older: &[u8], newer: &[u8]) -> bool {
+fn judge_files(rt: HostRuntime, older: &[u8], newer: &[u8]) -> bool {
     let was = admit_file::read(older);
     let is = admit_file::read(newer);
     let a = was.table;
     let b = is.table;
-    judge_again(a, b)
+    judge_again(rt, a, b)
 }
 
-fn carry(older: &[u8], newer: &[u8]) -> u8 {
+fn carry(rt: HostRuntime, older: &[u8], newer: &[u8]) -> u8 {
     let was = admit_file::check(older);
     let is = admit_file::check(newer);
     if was.number != 0 {
-        return refuse(was.number, was, is);
+        return refuse(rt, was.number, was, is);
     }
     if is.number != 0 {
-        return refuse(is.number, was, is);
+        return refuse(rt, is.number, was, is);
     }
-    if judge_files(older, newer) {
+    if judge_files(rt, older, newer) {
         status::of_file(newer)
     } else {
         3
     }
 }
 
-fn load_both() -> u8 {
+fn load_both(rt: HostRuntime) -> u8 {
     let mut older = [0u8; 7952];
-    let Got::Bytes(n) = console::load(b"carry: ", 1, &mut older) else {
+    let Got::Bytes(n) = console::load(rt, b"carry: ", 1, &mut older) else {
         return 3;
     };
     let mut newer = [0u8; 7952];
-    let Got::Bytes(m) = console::load(b"carry: ", 2, &mut newer) else {
+    let Got::Bytes(m) = console::load(rt, b"carry: ", 2, &mut newer) else {
         return 3;
     };
-    carry(input::front(&older, n), input::front(&newer, m))
+    carry(rt, input::front(&older, n), input::front(&newer, m))
 }
 
-fn main() {
-    let status = if console::words() == 2 {
-        load_both()
+fn main(rt: HostRuntime) {
+    let status = if console::words(rt) == 2 {
+        load_both(rt)
     } else {
-        console::usage(b"usage: carry OLDER NEWER\n")
+        console::usage(rt, b"usage: carry OLDER NEWER\n")
     };
-    console::tell(status);
+    console::tell(rt, status);
 }

@@ -15,10 +15,8 @@ pub fn from(s: &[u8], at: usize) -> &[u8] {
 // The bytes of a raw table, with 0 for those that are not there. 32 starts have fewer.
 fn padded(s: &[u8]) -> [u8; 1242] {
     let mut all = [0u8; 1242];
-    let mut i: usize = 0;
-    while i < 1242 && i < s.len() {
-        all[i] = s[i];
-        i += 1;
+    for i in 0..1242 {
+        all[i] = byte(s, i);
     }
     all
 }
@@ -26,10 +24,8 @@ fn padded(s: &[u8]) -> [u8; 1242] {
 fn figures(s: &[u8], at: usize, into: &mut [u16])
     requires { at + 2 * length into.old ≤ length s.now }
 {
-    let mut i: usize = 0;
-    while i < into.len() {
+    for i in 0..into.len() {
         into[i] = lent_bytes::le16(s, at + 2 * i);
-        i += 1;
     }
 }
 
@@ -54,11 +50,8 @@ fn tasks(s: &[u8], at: usize) -> [Task; 32]
 {
     let first = task(s, at);
     let mut all = [first; 32];
-    let mut i: usize = 1;
-    while i < 32 {
-        let next = task(s, at + 37 * i);
-        all[i] = next;
-        i += 1;
+    for i in 1..32 {
+        all[i] = task(s, at + 37 * i);
     }
     all
 }
@@ -93,10 +86,8 @@ pub fn starts(payload: &[u8]) -> [Picos; 32] {
     let s = padded(payload);
     let fresh = Picos(0);
     let mut all = [fresh; 32];
-    let mut i: usize = 0;
-    while i < 32 {
+    for i in 0..32 {
         all[i] = Picos(lent_bytes::le64(&s, 8 * i));
-        i += 1;
     }
     all
 }

@@ -8,35 +8,63 @@ mod notes;
 
 pub use files::{Got, load, make, say, unwritten};
 pub use notes::{explain, note, note_number, note_place, part};
+use std::env::{Env, FillError};
+use std::fs::OpenOptions;
+use std::io::Write;
+use std::{fs, io};
 
-fn is_option(i: usize) -> bool {
+// The first byte of a word: 0 where it has none, nothing where there is no such word. Of a longer one the others have no room, which is no error here.
+fn first_byte(rt: HostRuntime, i: usize) -> Option<u8> {
     let mut first = [0u8; 1];
-    os::arg(i, &mut first);
-    first[0] == b'-'
+    match rt.arg(i, &mut first) {
+        Err(FillError::NotPresent) => None,
+        _ => Some(first[0]),
+    }
 }
 
 // How many words stand behind the program's name. No program knows a word that begins with `-`: with one of those, more than any program takes.
-pub fn words() -> usize {
-    let count = os::arg_count();
-    let mut i: usize = 1;
-    while i < count {
-        if is_option(i) {
-            return usize::MAX;
+pub fn words(rt: HostRuntime) -> usize {
+    for i in 1..usize::MAX {
+        match first_byte(rt, i) {
+            None => return i - 1,
+            Some(b'-') => return usize::MAX,
+            Some(_) => {}
         }
-        i += 1;
     }
-    i - 1
+    usize::MAX
 }
 
 // That the words are wrong, and the status then.
-pub fn usage(line: &[u8]) -> u8 {
-    note(line);
+pub fn usage(rt: HostRuntime, line: &[u8]) -> u8 {
+    note(rt, line);
     3
 }
 
+// Descriptor 9 by its name: std has no descriptor by its number.
+const STATUS: &str = "/proc/self/fd/9";
+
+// That name is a link, which may be written where the descriptor is open for writing.
+fn takes_status(rt: HostRuntime) -> bool {
+    match fs::symlink_metadata(&rt, STATUS) {
+        Ok(link) => !link.permissions().readonly(),
+        Err(_) => false,
+    }
+}
+
+// Opened anew: for reading too, since a pipe that nobody reads would hold the program up, and to write behind what is there.
+fn write_status(rt: HostRuntime, digit: u8) -> io::Result<()> {
+    let mut to = OpenOptions::new()
+        .read(true)
+        .append(true)
+        .open(&rt, STATUS)?;
+    to.write_all(&[digit])
+}
+
 // How the program ended, from 0 to 3 (a larger number is told as 3): one digit on descriptor 9, since a program has no exit status. Where that is not open
-// nothing is told.
-pub fn tell(status: u8) {
+// for writing nothing is told.
+pub fn tell(rt: HostRuntime, status: u8) {
     let digit = if status < 3 { b'0' + status } else { b'3' };
-    io::write_all(9, &[digit]);
+    if takes_status(rt) {
+        let _told = write_status(rt, digit);
+    }
 }

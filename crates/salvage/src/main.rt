@@ -6,55 +6,55 @@ use console::Got;
 use rules::Salvaged;
 
 // To the file that the second word names, or to standard output; and whether it was written.
-fn write(named: bool, file: &[u8]) -> bool {
+fn write(rt: HostRuntime, named: bool, file: &[u8]) -> bool {
     if named {
-        return console::make(b"salvage: ", 2, file);
+        return console::make(rt, b"salvage: ", 2, file);
     }
-    console::say(b"salvage: ", file)
+    console::say(rt, b"salvage: ", file)
 }
 
 // The report, and whether it was written. What cannot be written to standard error cannot be told.
-fn tell(named: bool, salvaged: Salvaged) -> bool {
+fn tell(rt: HostRuntime, named: bool, salvaged: Salvaged) -> bool {
     let mut out = [0u8; 85];
     let n = report::line(salvaged, &mut out);
     let line = lent_bytes::front(&out, n);
     if named {
-        return console::say(b"salvage: ", line);
+        return console::say(rt, b"salvage: ", line);
     }
-    console::note(line);
+    console::note(rt, line);
     true
 }
 
 // The file that a word names; word 0 is standard input.
-fn salvage(word: usize, file: &[u8]) -> u8 {
+fn salvage(rt: HostRuntime, word: usize, file: &[u8]) -> u8 {
     let named = word != 0;
     let mut new = [0u8; 990];
     let salvaged = salvaging::salvage(file, &mut new);
     let refusal = salvaged.refusal;
     let done = refusal.number == 0;
-    if done && !write(named, lent_bytes::front(&new, salvaged.length)) {
+    if done && !write(rt, named, lent_bytes::front(&new, salvaged.length)) {
         return 3;
     }
-    if !tell(named, salvaged) {
+    if !tell(rt, named, salvaged) {
         return 3;
     }
-    console::explain(b"salvage: ", word, refusal.number, refusal.place);
+    console::explain(rt, b"salvage: ", word, refusal.number, refusal.place);
     if done { 0 } else { 2 }
 }
 
-fn take(word: usize) -> u8 {
+fn take(rt: HostRuntime, word: usize) -> u8 {
     let mut file = [0u8; 7952];
-    match console::load(b"salvage: ", word, &mut file) {
+    match console::load(rt, b"salvage: ", word, &mut file) {
         Got::Failed => 3,
-        Got::Bytes(n) => salvage(word, input::front(&file, n)),
+        Got::Bytes(n) => salvage(rt, word, input::front(&file, n)),
     }
 }
 
-fn main() {
-    let status = match console::words() {
-        0 => take(0),
-        2 => take(1),
-        _ => console::usage(b"usage: salvage [CUT NEW]\n"),
+fn main(rt: HostRuntime) {
+    let status = match console::words(rt) {
+        0 => take(rt, 0),
+        2 => take(rt, 1),
+        _ => console::usage(rt, b"usage: salvage [CUT NEW]\n"),
     };
-    console::tell(status);
+    console::tell(rt, status);
 }
