@@ -1,17 +1,26 @@
 -- One task of lent columns. Assumes nothing.
 use mathlib.Core.Path.{◌≡◌, ◌∙◌}
-use Prim.Native.Nat.{ℕ, ◌-◌, ◌≤◌, ◌<◌}
+use Prim.Native.Nat.{ℕ, ◌+◌, ◌-◌, ◌≤◌, ◌<◌}
 use native.Mathlib.Omega.{arith}
-use lib.ListN.{get_or}
+use lib.ListN.{get_or, length}
+use Rattle.standing.specs.OnCore.{places_on}
 use Rattle.laws.specs.Idioms.{Within}
 use Rattle.releases.proofs.Quotients.{small-none}
 use Rattle.rounds.specs.Lent.{Lent, lent_of, place_at, own_at, Judgeable}
-use Rattle.rounds.proofs.Here.{fits_at, own_at, here-ready, here-climbed}
-use Rattle.columns.proofs.judge_at.Goals.{After-doubled-1, After-invs-1, After-invs-2-1}
+use Rattle.rounds.proofs.Here.{fits_at, own_at_lem, here-ready, here-climbed}
+use Rattle.columns.proofs.judge_at.Goals.{Start}
+use Rattle.columns.proofs.judge_at.Given as given
 use Rattle.columns.proofs.judge_at.Goals as goal
 
+-- what the code may rely on, of what is lent
+lawful : {all lent : Lent} → all ≡ lent → Judgeable lent → Judgeable all
+lawful same j = rw same j
+
+within : {all lent : Lent} {i start : ℕ} → all ≡ lent → (i < lent.board.tasks) × (start ≤ get_or lent.latest i 0) → (i < all.board.tasks) × (start ≤ get_or all.latest i 0)
+within same h = rw same h
+
 -- what is lent, and the task in it
-module _ (s : After-invs-1) where
+module _ (g : given.Over) (s : Start g) where
   abbrev lent : Lent
   lent = lent_of s.args.board s.args.core.now s.args.latest.now s.args.from.now s.args.spans.now s.args.costs.now s.args.asks.now
 
@@ -19,68 +28,66 @@ module _ (s : After-invs-1) where
   i = s.args.i
 
   judgeable : Judgeable lent
-  judgeable = s.requires.0
+  judgeable = lawful s.requires.0 s.requires.1.0
 
-  here : i < lent.board.tasks
-  here = s.requires.1.0
+  here : (i < lent.board.tasks) × (s.args.start ≤ get_or lent.latest i 0)
+  here = within {all = lent} s.requires.0 s.requires.1.1
 
   few : i < 32
-  few = omega (arith, here, judgeable.few)
+  few = omega (arith, here.0, judgeable.few)
 
   core_in : Within 1 8 (get_or lent.core i 0)
-  core_in = judgeable.core_in i here
+  core_in = judgeable.core_in i here.0
 
   first-low : get_or lent.begins (get_or lent.core i 0 - 1) 0 ≤ 32
   unfolding place_at
-  first-low = omega (arith, judgeable.place_low i here)
+  first-low = omega (arith, judgeable.place_low i here.0)
 
-stands : (c : After-doubled-1) → c.place-place.result ≡ place_at (lent c.before.before.before.before.before.before.before.before.before) (i c.before.before.before.before.before.before.before.before.before)
-unfolding place_at
-stands c = c.place-place.ensures
+  stands : {place : ℕ} → place ≡ get_or lent.begins (get_or lent.core i 0 - 1) 0 + length (places_on lent.core (get_or lent.core i 0) i) → place ≡ place_at lent i
+  unfolding place_at
+  stands is = is
 
-place_low : (c : After-doubled-1) → c.place-place.result ≤ 32
-place_low c = omega (arith, stands c, (judgeable c.before.before.before.before.before.before.before.before.before).place_low (i c.before.before.before.before.before.before.before.before.before) (here c.before.before.before.before.before.before.before.before.before))
+  place_low : {place : ℕ} → place ≡ place_at lent i → place ≤ 32
+  place_low is = omega (arith, is, judgeable.place_low i here.0)
 
 pub own_of-own-requires : goal.own_of-own-requires
-own_of-own-requires c = let doubled = c.doubled-doubled.ensures in
-    record { p_bound = (omega (arith, (core_in (goal.at.own_of-own-requires c).After-invs-1).low, (core_in (goal.at.own_of-own-requires c).After-invs-1).high), few (goal.at.own_of-own-requires c).After-invs-1, place_low c); doubled = (doubled, fits_at (lent (goal.at.own_of-own-requires c).After-invs-1) (judgeable (goal.at.own_of-own-requires c).After-invs-1) (i (goal.at.own_of-own-requires c).After-invs-1) (here (goal.at.own_of-own-requires c).After-invs-1) _ doubled) }
-
-own_is : (c : After-invs-2-1) → c.own_of-own.result ≡ own_at (lent c.before.before.before.before.before.before.before.before.before.before.before) (i c.before.before.before.before.before.before.before.before.before.before.before)
-own_is c = own_at (lent c.before.before.before.before.before.before.before.before.before.before.before) (judgeable c.before.before.before.before.before.before.before.before.before.before.before) (i c.before.before.before.before.before.before.before.before.before.before.before) (here c.before.before.before.before.before.before.before.before.before.before.before) _ (stands c.before.before) c.own_of-own.ensures
+own_of-own-requires g c =
+    let s = (goal.at.own_of-own-requires g c).Start in
+    let doubled = c.doubled-doubled.ensures in
+    record {
+      p_bound = (omega (arith, (core_in g s).low, (core_in g s).high), few g s, place_low g s (stands g s c.place-place.ensures));
+      doubled = (doubled, fits_at (lent g s) (judgeable g s) (i g s) (here g s).0 _ doubled);
+    }
 
 pub settle-requires : goal.settle-requires
-settle-requires c = record { small = c.inverses.ensures; ready = here-ready (lent (goal.at.settle-requires c).After-invs-1) (i (goal.at.settle-requires c).After-invs-1) (own_is c) (judgeable (goal.at.settle-requires c).After-invs-1) (here (goal.at.settle-requires c).After-invs-1) c.requires.1.1 }
+settle-requires g c =
+    let s = (goal.at.settle-requires g c).Start in
+    let own = own_at_lem (lent g s) (judgeable g s) (i g s) (here g s).0 _ (stands g s c.place-place.ensures) c.own_of-own.ensures in
+    record { small = c.inverses.ensures; ready = here-ready (lent g s) (i g s) own (judgeable g s) (here g s).0 (here g s).1 }
 
 pub returns : goal.returns
-returns c =
-    c.settle.ensures ∙ here-climbed (lent (goal.at.returns c).After-invs-1) (i (goal.at.returns c).After-invs-1) (own_is (goal.at.returns c).After-invs-2-1) c.args.start
+returns g c =
+    let s = (goal.at.returns g c).Start in
+    let own = own_at_lem (lent g s) (judgeable g s) (i g s) (here g s).0 _ (stands g s c.place-place.ensures) c.own_of-own.ensures in
+    rw (← c.requires.0) (c.settle.ensures ∙ here-climbed (lent g s) (i g s) own c.args.start)
 
 pub inverses-requires : goal.inverses-requires
-inverses-requires c = (omega (arith, (judgeable c).few), small-none 33)
+inverses-requires g c = (omega (arith, (judgeable g (goal.at.inverses-requires g c).Start).few), small-none 33)
 
 pub bounds-core-i : goal.bounds-core-i
-bounds-core-i c = few (goal.at.bounds-core-i c).After-invs-1
-
-pub overflow_cast-p : goal.overflow_cast-p
-overflow_cast-p c = omega (arith, (core_in (goal.at.overflow_cast-p c).After-invs-1).high)
+bounds-core-i g c = few g (goal.at.bounds-core-i g c).Start
 
 pub overflow_sub-p : goal.overflow_sub-p
-overflow_sub-p c = (core_in (goal.at.overflow_sub-p c).After-invs-1).low
-
-pub offset_bounds-from-p : goal.offset_bounds-from-p
-offset_bounds-from-p c = omega (arith, (core_in (goal.at.offset_bounds-from-p c).After-invs-1).high)
+overflow_sub-p g c = (core_in g (goal.at.overflow_sub-p g c).Start).low
 
 pub bounds-from-p : goal.bounds-from-p
-bounds-from-p c = omega (arith, (core_in (goal.at.bounds-from-p c).After-invs-1).high)
+bounds-from-p g c = omega (arith, (core_in g (goal.at.bounds-from-p g c).Start).high)
 
 pub place-place-requires : goal.place-place-requires
-place-place-requires c = (few (goal.at.place-place-requires c).After-invs-1, first-low (goal.at.place-place-requires c).After-invs-1)
-
-pub offset_bounds-board-p : goal.offset_bounds-board-p
-offset_bounds-board-p c = omega (arith, (core_in (goal.at.offset_bounds-board-p c).After-invs-1).high)
+place-place-requires g c = let s = (goal.at.place-place-requires g c).Start in (few g s, first-low g s)
 
 pub bounds-board-p : goal.bounds-board-p
-bounds-board-p c = omega (arith, (core_in (goal.at.bounds-board-p c).After-invs-1).low, (core_in (goal.at.bounds-board-p c).After-invs-1).high)
+bounds-board-p g c = let s = (goal.at.bounds-board-p g c).Start in omega (arith, (core_in g s).low, (core_in g s).high)
 
 pub doubled-doubled-requires : goal.doubled-doubled-requires
-doubled-doubled-requires c = (judgeable (goal.at.doubled-doubled-requires c).After-invs-1).lots
+doubled-doubled-requires g c = (judgeable g (goal.at.doubled-doubled-requires g c).Start).lots

@@ -7,7 +7,7 @@ use Rattle.columns.proofs.judge_tasks.Goals as goal
 
 pub judge_lent-requires : goal.judge_lent-requires
 judge_lent-requires c =
-    of_judgeable c.args.table (judged-sound _ c.requires) c.laid-board.ensures
+    (refl, of_judgeable c.args.table (judged-sound _ c.requires) c.laid-board.ensures)
 
 pub returns : goal.returns
 returns c =
