@@ -12,7 +12,7 @@ use Rattle.kept.proofs.Kept.{kept-most}
 use Rattle.facts.proofs.Chain.{passes, refuses}
 use Rattle.salvaging.specs.Front.{check_front}
 use Rattle.salvaging.proofs.Links.{reached, front-late, front-board-passed, refused-front, none_kept, no_room, salvaged}
-use Rattle.salvaging.proofs.salvage.Goals.{After-out-1, Else-refusal-ne0}
+use Rattle.salvaging.proofs.salvage.Goals.{Else-n-eq0, Else-refusal-ne0}
 use Rattle.salvaging.proofs.salvage.Goals as goal
 
 -- past the refusals before the records
@@ -20,7 +20,7 @@ front-passes : (c : Else-refusal-ne0) → is_accepted (check_front c.args.file.n
 front-passes c = passes c.front_refusal-refusal.ensures c.if-refusal-ne0.false
 
 -- a record is kept
-some-kept : (c : After-out-1) → 1 ≤ kept c.args.file.now
+some-kept : (c : Else-n-eq0) → 1 ≤ kept c.args.file.now
 some-kept c = omega (arith, c.count-n.ensures, c.if-n-eq0.false)
 
 -- the header is there
@@ -53,10 +53,10 @@ stop-requires c = rw c.count-n.ensures (kept-most _)
 
 pub returns-then-written-ne0 : goal.returns-then-written-ne0
 returns-then-written-ne0 c =
-    rw c.no_salvage-then-written-ne0.ensures (no_room _ _ (front-passes (goal.at.returns-then-written-ne0 c).Else-refusal-ne0) (some-kept (goal.at.returns-then-written-ne0 c).After-out-1) c.write-Kept.ensures c.if-written-ne0.true)
+    rw c.no_salvage-then-written-ne0.ensures (no_room _ _ (front-passes (goal.at.returns-then-written-ne0 c).Else-refusal-ne0) (some-kept (goal.at.returns-then-written-ne0 c).Else-n-eq0) c.write_kept-written.ensures c.if-written-ne0.true)
 
 pub returns : goal.returns
 unfolding stopped
 returns c =
     let is = c.count-n.ensures in
-    rw c.refused-2.ensures (salvaged _ _ (front-passes (goal.at.returns c).Else-refusal-ne0) (some-kept (goal.at.returns c).After-out-1) c.write-Kept.ensures c.if-written-ne0.false is (c.stop.ensures ∙ rw is))
+    rw c.refused-2.ensures (salvaged _ _ (front-passes (goal.at.returns c).Else-refusal-ne0) (some-kept (goal.at.returns c).Else-n-eq0) c.write_kept-written.ensures c.if-written-ne0.false is (c.stop.ensures ∙ rw is))

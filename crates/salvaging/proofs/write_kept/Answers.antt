@@ -21,6 +21,7 @@ pub mark_salvaged-requires : goal.mark_salvaged-requires
 mark_salvaged-requires c = (board-counts _ c.requires.file_value_2).2
 
 pub table-table-requires : goal.table-table-requires
-table-table-requires c = let (late, (board, is)) = c.requires in
-    let (cores, few, _) = board-counts _ board in
-    record { file_bound = (cores, rw is few); n_in_bounds = rw is (kept_reach _ late) }
+table-table-requires c =
+    let is = c.requires.n_value in
+    let (cores, few, _) = board-counts _ c.requires.file_value_2 in
+    record { file_bound = (cores, rw is few); n_in_bounds = rw is (kept_reach _ c.requires.file_value) }
