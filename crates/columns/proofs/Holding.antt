@@ -12,7 +12,7 @@ use Rattle.laws.specs.Idioms.{entry, up_to, those, Within}
 use Rattle.laws.proofs.Sums.{those-append}
 use Rattle.laws.proofs.Runs.{length-map-from}
 use Rattle.laws.proofs.Filled.{filled-length}
-use Rattle.laws.proofs.Places.{get_D_within, place_of}
+use Rattle.laws.proofs.Places.{get_or-within, place_of}
 use Rattle.rules.specs.declared.Task.{Task}
 use Rattle.rules.specs.declared.Table.{Table}
 use Rattle.rules.specs.Tasks.{C, H, latest, no_task, core_of, is_on, tasks_on, higher}
@@ -73,7 +73,7 @@ module _ (t : Table) (s : Sound t) {l : Lent} (o : Held t l) where
             let here : j < length ps = rw (length-map ps (task_in t)) at few in
             figure_at q j there (omega (arith, places_few l.core (q + 1) i t.tasks h))
             ∙ ap (λ (i : ℕ). f (task_in t i)) (places_first l.core (q + 1) i t.tasks h j here)
-            ∙ sym (ap f (get_D_within (map (task_in t) ps) j no_task (task_in t 0) few ∙ get_or-map (task_in t) ps j 0))
+            ∙ sym (ap f (get_or-within (map (task_in t) ps) j no_task (task_in t 0) few ∙ get_or-map (task_in t) ps j 0))
 
   count_is : (q : ℕ) → length (tasks_on t q) ≡ length (places_on l.core q t.tasks)
   count_is q = rw (on_is q) (length-map (places_on l.core q t.tasks) (task_in t))

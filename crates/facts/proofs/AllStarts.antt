@@ -1,6 +1,6 @@
 -- The starts of all tasks together: where none is refused all are answered, and so it is of fresh starts, and of all older bounds where the newer
 -- table is the older one worsened. Assumes nothing.
-use mathlib.Core.Path.{◌≡◌, refl, ap, ◌∙◌}
+use mathlib.Core.Path.{◌≡◌}
 use mathlib.Core.Bool.{true, false}
 use mathlib.Core.List.{List, map}
 use Prim.Native.Nat.{ℕ, ◌-◌, ◌≤◌}

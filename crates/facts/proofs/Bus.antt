@@ -1,7 +1,7 @@
 -- A bus as a kind of board. Assumes nothing.
 use mathlib.Core.Path.{◌≡◌, refl, fun_ext, sym, ◌∙◌}
 use mathlib.Core.Bool.{not}
-use Prim.Native.Nat.{ℕ, ◌*◌}
+use Prim.Native.Nat.{ℕ}
 use native.Mathlib.Nat.{mul_comm}
 use native.Mathlib.Omega.{arith}
 use lib.Dec.{eqb}

@@ -1,9 +1,7 @@
 -- DRAM as a kind of board. Assumes nothing.
-use mathlib.Core.Path.{◌≡◌, fun_ext}
-use Prim.Native.Nat.{ℕ, ◌≤◌}
-use Rattle.rules.specs.declared.Table.{Table}
+use mathlib.Core.Path.{fun_ext}
 use Rattle.rules.specs.Board.{dram_memory}
-use Rattle.facts.specs.Prices.{dram_prices, priced_memory}
+use Rattle.facts.specs.Prices.{dram_prices}
 use Rattle.facts.specs.Lawful.{Lawful}
 use Rattle.facts.proofs.Weights.{JD_by_core, weight_self}
 use Rattle.facts.proofs.Alike.{same-RD, same-weight}

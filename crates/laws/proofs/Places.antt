@@ -25,7 +25,7 @@ module _ {A : Type 0} (d : A) (f : ℕ → A) where
       rw (get_or-append (map f (up_to m)) _ d (q - 1) (rw (length-map-from f m 1) (omega arith)), at m 1 (q - 1) (omega arith), e)
 
 -- within a list it does not matter what stands for a place beyond it
-pub get_D_within : {A : Type 0} (l : List A) (i : ℕ) (d e : A) → i < length l → get_or l i d ≡ get_or l i e
-get_D_within [] i d e h = absurd (not-suc-le-zero h)
-get_D_within (x ∷ l) zero d e h = refl
-get_D_within (x ∷ l) (suc i) d e h = get_D_within l i d e (le_of_suc-le-suc h)
+pub get_or-within : {A : Type 0} (l : List A) (i : ℕ) (d e : A) → i < length l → get_or l i d ≡ get_or l i e
+get_or-within [] i d e h = absurd (not-suc-le-zero h)
+get_or-within (x ∷ l) zero d e h = refl
+get_or-within (x ∷ l) (suc i) d e h = get_or-within l i d e (le_of_suc-le-suc h)

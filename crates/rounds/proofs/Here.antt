@@ -4,7 +4,7 @@ use mathlib.Core.List.{List}
 use Prim.Native.Nat.{ℕ, ◌+◌, ◌-◌, ◌≤◌, ◌<◌, zero-le}
 use native.Mathlib.Omega.{arith}
 use lib.ListN.{get_or}
-use Rattle.laws.proofs.Places.{get_D_within}
+use Rattle.laws.proofs.Places.{get_or-within}
 use Rattle.prices.specs.declared.CoreCosts.{CoreCosts}
 use Rattle.prices.specs.Costs.{no_costs}
 use Rattle.floors.specs.Floors.{Doubled, Fits}
@@ -22,7 +22,7 @@ module _ (l : Lent) (j : Judgeable l) (i : ℕ) (here : i < l.board.tasks) (d : 
   cost = get_or l.board.costs p d
 
   cost_at_lem : cost ≡ cost_at l i
-  cost_at_lem = let core = j.core_in i here in get_D_within l.board.costs p d no_costs (omega (arith, core.low, core.high, j.costs-long))
+  cost_at_lem = let core = j.core_in i here in get_or-within l.board.costs p d no_costs (omega (arith, core.low, core.high, j.costs-long))
 
   -- what two jobs of each task cost it can be summed
   pub fits_at : {doubled : List ℕ} → Doubled l.board.cores l.begins l.asks doubled → Fits l.board.cores cost.weight doubled

@@ -1,5 +1,4 @@
 -- The checks before every judgement, in their order. Assumes nothing.
-use borrow.Author.Rules.{rules}
 use mathlib.Core.Path.{◌≡◌, sym, ◌∙◌}
 use mathlib.Core.Bool.{true}
 use Rattle.rules.specs.Chain.{is_accepted}

@@ -1,5 +1,4 @@
 -- What is read of a file that is to be judged. Assumes nothing.
-use borrow.Author.Rules.{rules}
 use mathlib.Core.Path.{◌≡◌, sym, ap, ◌∙◌}
 use Rattle.rules.specs.Kinds.{says_salvaged}
 use Rattle.rules.specs.File.{form_in}

@@ -10,11 +10,8 @@ use Rattle.after.proofs.Either.{answers-carried, answers-fresh}
 use Rattle.facts.proofs.AllStarts.{all-fresh, all-carried, carried-answers, fresh-starts}
 use Rattle.after.proofs.answers_after.Goals as goal
 
-
-
 pub answers-requires-2 : goal.answers-requires-2
 answers-requires-2 c = let is = c.requires.newer_value in record { table_value = is; all_allowed = all-fresh c.args.newer (judged-accepted _ is) }
-
 
 pub older_starts-starts-requires : goal.older_starts-starts-requires
 older_starts-starts-requires c = c.requires.older_value

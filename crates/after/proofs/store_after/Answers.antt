@@ -1,5 +1,4 @@
 -- `store_after` meets its contract. Assumes nothing.
-use borrow.Author.Rules.{rules}
 use native.Mathlib.Omega.{arith}
 use Rattle.facts.proofs.Starts.{judged-sound}
 use Rattle.after.proofs.store_after.Goals as goal

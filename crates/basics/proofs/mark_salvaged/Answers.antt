@@ -1,6 +1,5 @@
 -- Bit 1 is set, or was. Assumes nothing.
-use borrow.Author.Rules.{rules}
-use mathlib.Core.Path.{◌≡◌, sym, ◌∙◌}
+use mathlib.Core.Path.{sym, ◌∙◌}
 use Rattle.rules.specs.Kinds.{marked}
 use Rattle.basics.proofs.mark_salvaged.Goals as goal
 

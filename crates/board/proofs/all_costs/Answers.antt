@@ -2,7 +2,6 @@
 use mathlib.Core.Path.{◌≡◌, sym, ap, fun_ext, ◌∙◌}
 use mathlib.Core.Bool.{true, false}
 use Prim.Native.Nat.{ℕ}
-use borrow.Author.Rules.{rules}
 use Rattle.rules.specs.declared.Table.{Table}
 use Rattle.rules.specs.Kinds.{is_bus, says_bus}
 use Rattle.facts.specs.Prices.{Prices, dram_prices, bus_prices, prices_of}

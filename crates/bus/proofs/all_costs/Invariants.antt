@@ -1,11 +1,8 @@
 -- `all_costs` fills a place a core with its costs. Assumes nothing.
-use mathlib.Core.Path.{◌≡◌, refl, sym, ap, ◌∙◌}
+use mathlib.Core.Path.{◌≡◌}
 use mathlib.Core.List.{map}
 use Prim.Native.Nat.{◌-◌, ◌≤◌}
-use borrow.Author.Rules.{rules}
-use native.Mathlib.Omega.{arith}
-use Rattle.laws.specs.Idioms.{from, up_to, filled}
-use Rattle.laws.proofs.Places.{place_next}
+use Rattle.laws.specs.Idioms.{up_to, filled}
 use Rattle.rules.specs.declared.Table.{Table}
 use Rattle.rules.specs.Bus.{slot_in}
 use Rattle.facts.specs.Prices.{bus_prices}

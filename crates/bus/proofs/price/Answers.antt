@@ -1,5 +1,4 @@
 -- A turn for the request of another core, nothing for one of its own. Assumes nothing.
-use mathlib.Core.Path.{sym, ap, ◌∙◌}
 use borrow.Author.Tests.{eq-eqb, ne_eqb}
 use Rattle.bus.proofs.price.Goals as goal
 

@@ -1,5 +1,4 @@
 -- `ryb_judge` meets its contract. Assumes nothing.
-use borrow.Author.Rules.{rules}
 use Rattle.capi.proofs.ryb_judge.Goals as goal
 
 pub returns : goal.returns

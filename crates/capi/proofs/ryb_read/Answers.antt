@@ -1,5 +1,4 @@
 -- `ryb_read` meets its contract. Assumes nothing.
-use borrow.Author.Rules.{rules}
 use Rattle.capi.proofs.ryb_read.Goals as goal
 
 pub returns : goal.returns

@@ -1,6 +1,5 @@
 -- `ryb_worsens` meets its contract. Assumes nothing.
 use mathlib.Core.Path.{sym, ◌∙◌}
-use borrow.Author.Rules.{rules}
 use Rattle.capi.proofs.ryb_worsens.Goals as goal
 
 pub returns-then-worsens_files : goal.returns-then-worsens_files

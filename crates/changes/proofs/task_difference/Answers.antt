@@ -1,5 +1,4 @@
 -- A task's figures, one after the other. Assumes nothing.
-use borrow.Author.Rules.{rules}
 use borrow.Author.Tests.{eq-eqb, ne_eqb, le-leb, lt-leb}
 use Rattle.changes.specs.Difference.{◌or_else◌, task_difference}
 use Rattle.changes.proofs.task_difference.Goals as goal

@@ -1,5 +1,4 @@
 -- A figure that must stay as it was. Assumes nothing.
-use borrow.Author.Rules.{rules}
 use borrow.Author.Tests.{eq-eqb, ne_eqb}
 use Rattle.changes.proofs.unequal.Goals as goal
 

@@ -5,10 +5,9 @@ use mathlib.Core.List.{List}
 use Prim.Native.Nat.{ℕ, ◌+◌, ◌-◌, ◌≤◌, ◌<◌}
 use native.Mathlib.Omega.{arith}
 use lib.ListN.{length, get_or, get_or-eq_default}
-use Rattle.laws.specs.Idioms.{entry}
 use Rattle.changes.specs.declared.Change.{Change}
 use Rattle.changes.specs.Difference.{none, unequal, unlike}
-use Rattle.changes.proofs.First.{Left, left-all, left-hit, left-next, left-clear, left-none}
+use Rattle.changes.proofs.First.{left-all, left-hit, left-next, left-clear, left-none}
 use Rattle.changes.proofs.unlike.Invariants.{at}
 use Rattle.changes.proofs.unlike.Goals as goal
 

@@ -1,14 +1,10 @@
 -- Two lists compared, place by place. Assumes nothing.
-use borrow.Author.Rules.{rules}
-use mathlib.Core.Path.{◌≡◌}
 use mathlib.Core.List.{List}
-use Prim.Native.Nat.{ℕ, ◌+◌, ◌-◌, ◌≤◌, ◌<◌}
-use native.Mathlib.Omega.{arith}
-use lib.ListN.{length, get_or, get_or-eq_default}
+use Prim.Native.Nat.{ℕ, ◌-◌, ◌≤◌}
 use Rattle.laws.specs.Idioms.{entry}
 use Rattle.changes.specs.declared.Change.{Change}
-use Rattle.changes.specs.Difference.{none, unequal, unlike}
-use Rattle.changes.proofs.First.{Left, left-all, left-hit, left-next, left-clear, left-none}
+use Rattle.changes.specs.Difference.{unequal}
+use Rattle.changes.proofs.First.{Left}
 use Rattle.changes.proofs.unlike.Given as goal
 
 abbrev pub at : ℕ → List ℕ → List ℕ → ℕ → Change

@@ -1,6 +1,5 @@
 -- 5 to 8 in their order. Assumes nothing.
 use mathlib.Core.Path.{sym, ◌∙◌}
-use borrow.Author.Rules.{rules}
 use Rattle.checks.proofs.Counts.{counts-refuse, counts_pass, counts-inside}
 use Rattle.facts.proofs.Chain.{stops, goes_on}
 use Rattle.checks.proofs.board_refusal.Goals as goal

@@ -1,5 +1,4 @@
 -- 5 to 11 in their order. Assumes nothing.
-use borrow.Author.Rules.{rules}
 use Rattle.rules.specs.Refusals.{check_table}
 use Rattle.facts.proofs.Chain.{stops, goes_on}
 use Rattle.checks.proofs.check.Goals as goal

@@ -1,5 +1,4 @@
 -- 5 to 8 of a table. Assumes nothing.
-use borrow.Author.Rules.{rules}
 use Rattle.rules.specs.Refusals.{check_board}
 use Rattle.checks.proofs.check_board.Goals as goal
 

@@ -1,6 +1,5 @@
 -- The check of a row, by the table's kind. Assumes nothing.
 use mathlib.Core.Path.{sym, ◌∙◌}
-use borrow.Author.Rules.{rules}
 use Rattle.rules.specs.Refusals.{check_row}
 use Rattle.checks.proofs.check_row.Goals as goal
 

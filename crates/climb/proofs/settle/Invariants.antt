@@ -1,11 +1,8 @@
 -- The loop makes the rounds. Assumes nothing.
-use borrow.Author.Rules.{rules}
-use mathlib.Core.Path.{refl, ◌∙◌}
 use Prim.Native.Nat.{◌-◌, max}
-use native.Mathlib.Omega.{arith}
 use Rattle.terms.specs.Terms.{terms_of}
 use Rattle.climb.specs.Run.{lowest_of}
-use Rattle.climb.proofs.Rises.{Going, going_first, going_next, last-holds, last-misses, lowered}
+use Rattle.climb.proofs.Rises.{Going}
 use Rattle.climb.proofs.settle.Given as goal
 
 abbrev pub invariant-loop-t : goal.invariant-loop-t

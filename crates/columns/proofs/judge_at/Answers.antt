@@ -6,7 +6,7 @@ use lib.ListN.{get_or, length}
 use Rattle.standing.specs.OnCore.{places_on}
 use Rattle.laws.specs.Idioms.{Within}
 use Rattle.releases.proofs.Quotients.{small-none}
-use Rattle.rounds.specs.Lent.{Lent, lent_of, place_at, own_at, Judgeable}
+use Rattle.rounds.specs.Lent.{Lent, lent_of, place_at, Judgeable}
 use Rattle.rounds.proofs.Here.{fits_at, own_at_lem, here-ready, here-climbed}
 use Rattle.columns.proofs.judge_at.Goals.{Start}
 use Rattle.columns.proofs.judge_at.Given as given

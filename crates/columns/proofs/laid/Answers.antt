@@ -1,5 +1,4 @@
 -- All that judging needs of a table. Assumes nothing.
-use borrow.Author.Rules.{rules}
 use Rattle.groups.proofs.Joining.{low_zeros}
 use Rattle.columns.proofs.laid.Goals as goal
 
@@ -10,4 +9,3 @@ grouped-requires c = let board = c.priced-board.ensures in
 
 pub columns-requires : goal.columns-requires
 columns-requires c = record { sound = (c.requires.sound.0, rw c.priced-board.ensures at c.grouped.ensures.low); spans_len = c.requires.spans_len }
-

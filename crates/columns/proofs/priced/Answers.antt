@@ -1,5 +1,4 @@
 -- What a table's cores cost each other. Assumes nothing.
-use borrow.Author.Rules.{rules}
 use mathlib.Core.Path.{refl}
 use Rattle.columns.proofs.priced.Goals as goal
 

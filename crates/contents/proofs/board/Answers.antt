@@ -1,7 +1,6 @@
 -- 5 to 8 and 16 of a file, from its bytes. Assumes nothing.
 use mathlib.Core.Path.{◌∙◌}
 use native.Mathlib.Omega.{arith}
-use borrow.Author.Rules.{rules}
 use Rattle.rules.specs.Refusals.{check_board}
 use Rattle.rules.specs.File.{decode}
 use Rattle.fields.proofs.Steps.{header-there}

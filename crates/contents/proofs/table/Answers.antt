@@ -3,7 +3,6 @@ use mathlib.Core.List.{List}
 use Prim.Native.Nat.{ℕ, ◌+◌, ◌≤◌}
 use native.Mathlib.Omega.{arith}
 use lib.ListN.{length}
-use borrow.Author.Rules.{rules}
 use Rattle.rules.specs.File.{record_at, cores_in, form_in}
 use Rattle.fields.proofs.Steps.{header-there}
 use Rattle.contents.proofs.Steps.{sets-there}
@@ -15,7 +14,6 @@ long s n reaches = header-there s (sets-there s n reaches)
 
 pub sets_in-sets-requires : goal.sets_in-sets-requires
 sets_in-sets-requires c = record { file_bound = c.requires.file_bound.0; file_in_bounds = sets-there c.args.file.now c.args.n c.requires.n_in_bounds }
-
 
 pub returns : goal.returns
 returns c =

@@ -1,12 +1,9 @@
 -- The tasks of a file, place by place. Assumes nothing.
-use Prim.Native.Nat.{◌+◌, ◌-◌, ◌≤◌, ◌<◌}
+use Prim.Native.Nat.{◌-◌, ◌≤◌}
 use mathlib.Core.Path.{◌≡◌}
-use native.Mathlib.Omega.{arith}
-use borrow.Author.Rules.{rules}
-use Rattle.laws.specs.Idioms.{from, filled}
+use Rattle.laws.specs.Idioms.{filled}
 use Rattle.rules.specs.Tasks.{no_task}
 use Rattle.contents.specs.Tasks.{tasks_to}
-use Rattle.contents.proofs.Steps.{task-next, record_there}
 use Rattle.contents.proofs.tasks.Given as goal
 
 abbrev pub invariant-loop-i : goal.invariant-loop-i

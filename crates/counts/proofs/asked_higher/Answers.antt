@@ -1,10 +1,8 @@
 -- What higher tasks ask for, place by place. Assumes nothing.
 use borrow.Author.Rules.{rules}
 use mathlib.Core.Path.{◌≡◌, refl}
-use Prim.Native.Nat.{◌≤◌, ◌-◌, ◌*◌, ◌^◌}
 use native.Mathlib.Nat.{le_refl}
 use native.Mathlib.Omega.{arith}
-use Rattle.counts.specs.Counts.{released, Summed}
 use Rattle.counts.proofs.Sums.{summed-none, released-next}
 use Rattle.counts.proofs.asked_higher.Goals as goal
 

@@ -1,11 +1,6 @@
 -- What tasks ask for after their first jobs, place by place. Assumes nothing.
-use borrow.Author.Rules.{rules}
-use mathlib.Core.Path.{◌≡◌}
 use Prim.Native.Nat.{◌≤◌, ◌-◌, ◌*◌, ◌^◌}
-use native.Mathlib.Nat.{le_refl}
-use native.Mathlib.Omega.{arith}
 use Rattle.counts.specs.Counts.{later_of, Summed}
-use Rattle.counts.proofs.Sums.{summed-none, count-some, later_next}
 use Rattle.counts.proofs.later.Given as goal
 
 abbrev pub invariant-loop-i : goal.invariant-loop-i

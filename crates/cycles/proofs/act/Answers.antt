@@ -1,6 +1,5 @@
 -- `cycles::act` meets its contract. Assumes nothing.
 use native.Mathlib.Omega.{arith}
-use borrow.Author.Rules.{rules}
 use Rattle.rules.specs.Delays.{act}
 use Rattle.cycles.proofs.act.Goals as goal
 

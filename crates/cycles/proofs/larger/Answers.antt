@@ -1,5 +1,4 @@
 -- `cycles::larger` cuts the difference off at zero. Assumes nothing.
-use borrow.Author.Rules.{rules}
 use Rattle.laws.proofs.Signed.{larger-cut}
 use Rattle.cycles.proofs.larger.Goals as goal
 

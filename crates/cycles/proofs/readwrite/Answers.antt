@@ -1,6 +1,5 @@
 -- `cycles::readwrite` meets its contract. Assumes nothing.
 use native.Mathlib.Omega.{arith}
-use borrow.Author.Rules.{rules}
 use Rattle.rules.specs.Delays.{readwrite}
 use Rattle.cycles.proofs.readwrite.Goals as goal
 

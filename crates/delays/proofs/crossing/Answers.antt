@@ -1,11 +1,7 @@
 -- `delays::crossing` meets its contract: at most 390 cycles. Assumes nothing.
 use native.Mathlib.Omega.{arith}
-use borrow.Author.Rules.{rules}
 use Rattle.delays.proofs.Bounds.{crossing-high}
 use Rattle.delays.proofs.crossing.Goals as goal
-
-
-
 
 pub plus-requires : goal.plus-requires
 plus-requires c = rw (c.pre.ensures, c.act.ensures) (omega (arith, crossing-high _ c.requires))

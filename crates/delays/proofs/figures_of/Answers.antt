@@ -1,6 +1,5 @@
 -- `delays::figures_of` meets its contract: every figure of a sound row fits as a time. Assumes nothing.
 use native.Mathlib.Omega.{arith}
-use borrow.Author.Rules.{rules}
 use Rattle.delays.specs.Figures.{figures_of}
 use Rattle.delays.proofs.Bounds.{window-high, crossing-fits, conf-fits, readwrite-fits, reopen-fits, run_fits}
 use Rattle.delays.proofs.figures_of.Goals as goal

@@ -1,5 +1,4 @@
 -- `delays::in_time` meets its contract: the product is the one that it asks to fit. Assumes nothing.
-use borrow.Author.Rules.{rules}
 use Rattle.rules.specs.Units.{in_time}
 use Rattle.delays.proofs.in_time.Goals as goal
 

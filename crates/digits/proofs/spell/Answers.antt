@@ -1,12 +1,10 @@
 -- `spell` meets its contract. The invariant: what is left of the number, spelled before the digits that stand, is the whole number spelled, and there is room
 -- for it. Assumes nothing.
-use mathlib.Core.Path.{◌≡◌, ◌∙◌, sym}
-use Prim.Native.Nat.{suc, ◌^◌, ◌≤◌, ◌<◌}
+use mathlib.Core.Path.{◌∙◌, sym}
 use native.Mathlib.Omega.{arith}
 use borrow.Author.Rules.{rules}
-use lib.ListN.{length, length-set}
-use Rattle.laws.specs.Decimal.{decimal}
-use Rattle.digits.proofs.Decimal.{spelled, spell_none, spell_next, spell_last, place_before, digit_fewer}
+use lib.ListN.{length-set}
+use Rattle.digits.proofs.Decimal.{spell_none, spell_next, spell_last, place_before, digit_fewer}
 use Rattle.digits.proofs.spell.Goals as goal
 
 pub loop-m-preserved : goal.loop-m-preserved

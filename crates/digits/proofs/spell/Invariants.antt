@@ -1,12 +1,10 @@
 -- `spell` meets its contract. The invariant: what is left of the number, spelled before the digits that stand, is the whole number spelled, and there is room
 -- for it. Assumes nothing.
-use mathlib.Core.Path.{◌≡◌, ◌∙◌, sym}
+use mathlib.Core.Path.{◌≡◌}
 use Prim.Native.Nat.{suc, ◌^◌, ◌≤◌, ◌<◌}
-use native.Mathlib.Omega.{arith}
-use borrow.Author.Rules.{rules}
-use lib.ListN.{length, length-set}
+use lib.ListN.{length}
 use Rattle.laws.specs.Decimal.{decimal}
-use Rattle.digits.proofs.Decimal.{spelled, spell_none, spell_next, spell_last, place_before, digit_fewer}
+use Rattle.digits.proofs.Decimal.{spelled}
 use Rattle.digits.proofs.spell.Given as goal
 
 abbrev pub invariant-loop-m : goal.invariant-loop-m

@@ -1,16 +1,15 @@
 -- `all_costs` fills a place a core with its costs. Assumes nothing.
 use mathlib.Core.Path.{◌≡◌, refl, sym, ap, ◌∙◌}
 use mathlib.Core.Bool.{Bool, true}
-use mathlib.Core.List.{List, map}
-use Prim.Native.Nat.{ℕ, ◌+◌, ◌-◌, ◌≤◌, ◌<◌}
+use mathlib.Core.List.{List}
+use Prim.Native.Nat.{ℕ, ◌+◌, ◌-◌, ◌<◌}
 use lib.ListN.{get_or}
 use borrow.Author.Rules.{rules}
 use native.Mathlib.Omega.{arith}
-use Rattle.rules.specs.declared.Table.{Table}
 use Rattle.delays.specs.Figures.{figures_of}
 use Rattle.facts.specs.Prices.{dram_prices}
 use Rattle.prices.specs.Costs.{costs_at, no_costs}
-use Rattle.laws.specs.Idioms.{from, up_to, filled}
+use Rattle.laws.specs.Idioms.{from}
 use Rattle.laws.proofs.Places.{place_next, place_of}
 use Rattle.sides.specs.Masks.{mask, on_side, side_masks}
 use Rattle.dram.proofs.Bounds.{small}
@@ -29,7 +28,6 @@ side-at near cores sets p h =
 
 pub costs-requires : goal.costs-requires
 costs-requires c = record { le_p = search rules; figures_bounded = small c.requires.1 c.figures_of-figures.ensures }
-
 
 pub returns : goal.returns
 returns c t e s row =

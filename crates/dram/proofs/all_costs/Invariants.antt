@@ -1,19 +1,12 @@
 -- `all_costs` fills a place a core with its costs. Assumes nothing.
-use mathlib.Core.Path.{◌≡◌, refl, sym, ap, ◌∙◌}
-use mathlib.Core.Bool.{Bool, true}
-use mathlib.Core.List.{List, map}
-use Prim.Native.Nat.{ℕ, ◌+◌, ◌-◌, ◌≤◌, ◌<◌}
-use lib.ListN.{get_or}
-use borrow.Author.Rules.{rules}
-use native.Mathlib.Omega.{arith}
+use mathlib.Core.Path.{◌≡◌}
+use mathlib.Core.List.{map}
+use Prim.Native.Nat.{◌-◌, ◌≤◌}
 use Rattle.rules.specs.declared.Table.{Table}
 use Rattle.delays.specs.Figures.{figures_of}
 use Rattle.facts.specs.Prices.{dram_prices}
 use Rattle.prices.specs.Costs.{costs_at, no_costs}
-use Rattle.laws.specs.Idioms.{from, up_to, filled}
-use Rattle.laws.proofs.Places.{place_next, place_of}
-use Rattle.sides.specs.Masks.{mask, on_side, side_masks}
-use Rattle.dram.proofs.Bounds.{small}
+use Rattle.laws.specs.Idioms.{up_to, filled}
 use Rattle.dram.proofs.all_costs.Given as goal
 
 abbrev pub invariant-loop-p : goal.invariant-loop-p

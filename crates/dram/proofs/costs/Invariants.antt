@@ -1,11 +1,9 @@
 -- `costs` weighs every core, and sums the weights. Assumes nothing.
 use mathlib.Core.Path.{◌≡◌}
 use Prim.Native.Nat.{◌-◌, ◌*◌, ◌^◌, ◌≤◌}
-use borrow.Author.Rules.{rules}
-use native.Mathlib.Omega.{arith}
 use Rattle.rules.specs.declared.Table.{Table}
 use Rattle.weights.specs.Shows.{Shows}
-use Rattle.dram.proofs.Gathered.{SoFar, so_far-none, so_far-next, so_far-all}
+use Rattle.dram.proofs.Gathered.{SoFar}
 use Rattle.dram.proofs.costs.Given as goal
 
 abbrev pub invariant-loop-q : goal.invariant-loop-q

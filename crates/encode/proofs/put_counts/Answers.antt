@@ -1,6 +1,5 @@
 -- Four bytes stored. Assumes nothing.
 use native.Mathlib.Omega.{arith}
-use borrow.Author.Rules.{rules}
 use lib.ListN.{length-set}
 use Rattle.encode.proofs.put_counts.Goals as goal
 

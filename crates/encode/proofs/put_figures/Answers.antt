@@ -1,12 +1,8 @@
 -- A run of figures, stored place by place. Assumes nothing.
-use Prim.Native.Nat.{◌-◌, ◌≤◌}
 use mathlib.Core.Path.{◌≡◌}
-use mathlib.Core.List.{map}
 use native.Mathlib.Omega.{arith}
 use borrow.Author.Rules.{rules}
-use lib.ListN.{length, take}
-use lib.Seq.{sets}
-use Rattle.laws.specs.Idioms.{joined, bytes_of}
+use Rattle.laws.specs.Idioms.{bytes_of}
 use Rattle.laws.proofs.Bytes.{bytes-length}
 use Rattle.laws.proofs.Runs.{store_next}
 use Rattle.encode.proofs.put_figures.Goals as goal

@@ -1,13 +1,9 @@
 -- A run of figures, place by place. Assumes nothing.
 use Prim.Native.Nat.{◌-◌, ◌≤◌}
 use mathlib.Core.Path.{◌≡◌}
-use native.Mathlib.Omega.{arith}
-use borrow.Author.Rules.{rules}
-use lib.ListN.{length, length-set}
+use lib.ListN.{length}
 use lib.Seq.{sets}
-use Rattle.laws.specs.Idioms.{from}
 use Rattle.fields.specs.Places.{figures_in}
-use Rattle.fields.proofs.Steps.{figure-next}
 use Rattle.fields.proofs.figures.Given as goal
 
 abbrev pub invariant-loop-i : goal.invariant-loop-i

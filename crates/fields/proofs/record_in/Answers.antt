@@ -1,7 +1,6 @@
 -- A record as a part of the file: the records stand after the header. Assumes nothing.
 use Prim.Native.Nat.{◌+◌}
 use native.Mathlib.Omega.{arith}
-use borrow.Author.Rules.{rules}
 use Rattle.rules.specs.File.{form_in, cores_in}
 use Rattle.places.proofs.Places.{sets-limit, after-sets}
 use Rattle.fields.proofs.Steps.{part_record}

@@ -1,5 +1,4 @@
 -- The task of a record. Assumes nothing.
-use borrow.Author.Rules.{rules}
 use mathlib.Core.Path.{◌∙◌}
 use Rattle.fields.proofs.Steps.{record_long}
 use Rattle.fields.proofs.record_task.Goals as goal

@@ -1,6 +1,5 @@
 -- The timing figures of a file. Assumes nothing.
 use mathlib.Core.Path.{◌∙◌}
-use borrow.Author.Rules.{rules}
 use Rattle.laws.proofs.Runs.{sets-full}
 use Rattle.fields.proofs.Steps.{figures-length}
 use Rattle.fields.proofs.row_in.Goals as goal

@@ -1,6 +1,5 @@
 -- The sets of a file's cores. Assumes nothing.
 use native.Mathlib.Omega.{arith}
-use borrow.Author.Rules.{rules}
 use Rattle.rules.specs.File.{sets_at, form_in, cores_in}
 use Rattle.laws.proofs.Runs.{sets-filled}
 use Rattle.places.proofs.Places.{records_are}

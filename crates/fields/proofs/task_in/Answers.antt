@@ -1,6 +1,5 @@
 -- A record's five figures, each from its place. Assumes nothing.
 use native.Mathlib.Omega.{arith}
-use borrow.Author.Rules.{rules}
 use Rattle.rules.specs.File.{record_task}
 use Rattle.laws.proofs.Parts.{number-one}
 use Rattle.fields.proofs.task_in.Goals as goal

@@ -1,6 +1,5 @@
 -- 1 to 4, then 5 to 11 and 16. Assumes nothing.
 use mathlib.Core.Path.{◌∙◌}
-use borrow.Author.Rules.{rules}
 use Rattle.facts.proofs.Chain.{passes, stops, goes_on}
 use Rattle.file.proofs.Reading.{both-parts}
 use Rattle.file.proofs.check.Goals as goal

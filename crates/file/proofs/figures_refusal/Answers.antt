@@ -1,6 +1,5 @@
 -- 5 to 8 and 16, then 9 to 11. Assumes nothing.
 use mathlib.Core.Path.{◌∙◌}
-use borrow.Author.Rules.{rules}
 use Rattle.facts.proofs.Chain.{stops, goes_on}
 use Rattle.fields.proofs.Steps.{sets_end}
 use Rattle.file.proofs.Reading.{whole-sized, by_parts}

@@ -1,6 +1,5 @@
 -- The first part, then the second. Assumes nothing.
 use mathlib.Core.Path.{◌∙◌}
-use borrow.Author.Rules.{rules}
 use Rattle.facts.proofs.Chain.{passes, refuses}
 use Rattle.file.proofs.Reading.{read_not_whole, read_whole}
 use Rattle.file.proofs.read.Goals as goal

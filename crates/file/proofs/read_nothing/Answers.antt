@@ -1,5 +1,4 @@
 -- The answer of a refused read. Assumes nothing.
-use borrow.Author.Rules.{rules}
 use Rattle.file.proofs.read_nothing.Goals as goal
 
 pub returns : goal.returns

@@ -1,15 +1,10 @@
 -- 9 to 11 of a whole file, from its records. Assumes nothing.
-use Prim.Native.Nat.{ℕ, ◌+◌, ◌-◌, ◌≤◌}
-use mathlib.Core.Path.{◌≡◌, sym, ◌∙◌}
-use mathlib.Core.List.{List}
+use mathlib.Core.Path.{◌∙◌}
 use native.Mathlib.Omega.{arith}
-use borrow.Author.Rules.{rules}
-use lib.ListN.{length}
-use Rattle.laws.proofs.Places.{place_of}
-use Rattle.rules.specs.Tasks.{no_task, task_of}
+use Rattle.rules.specs.Tasks.{task_of}
 use Rattle.rules.specs.Refusals.{check_tasks}
-use Rattle.rules.specs.File.{form_in, cores_in, tasks_in, record_at, record_size, record_in, record_task, decode}
-use Rattle.tasks.proofs.Seen.{SeenAll, seen_none, seen_task, seen_all}
+use Rattle.rules.specs.File.{cores_in, tasks_in, decode}
+use Rattle.tasks.proofs.Seen.{seen_none, seen_task, seen_all}
 use Rattle.file.proofs.records_in.Goals as goal
 
 pub loop-i-preserved : goal.loop-i-preserved

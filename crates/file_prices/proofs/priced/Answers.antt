@@ -1,5 +1,4 @@
 -- What the cores of an accepted file cost each other. Assumes nothing.
-use borrow.Author.Rules.{rules}
 use mathlib.Core.Path.{refl}
 use native.Mathlib.Omega.{arith}
 use Rattle.rules.specs.File.{decode}
@@ -12,11 +11,10 @@ sets_in-sets-requires c = record { file_bound = (file_counts _ c.requires).0; fi
 
 pub all_costs-costs-requires : goal.all_costs-costs-requires
 unfolding decode
-all_costs-costs-requires c =
-    (
-      rw c.size-cores.ensures.value (file_counts _ c.requires).0,
-      λ dram. rw c.row_in.ensures ((file_sound c.args.file.now c.requires).row dram),
-    )
+all_costs-costs-requires c = (
+  rw c.size-cores.ensures.value (file_counts _ c.requires).0,
+  λ dram. rw c.row_in.ensures ((file_sound c.args.file.now c.requires).row dram),
+)
 
 pub returns : goal.returns
 unfolding decode

@@ -1,10 +1,6 @@
 -- Two jobs of each core's tasks, core by core. Assumes nothing.
-use borrow.Author.Rules.{rules}
-use mathlib.Core.Path.{◌≡◌, refl}
 use Prim.Native.Nat.{◌≤◌, ◌-◌}
-use native.Mathlib.Omega.{arith}
 use Rattle.floors.specs.Floors.{Doubled}
-use Rattle.floors.proofs.Doubling.{doubled_none, doubled_next}
 use Rattle.floors.proofs.doubled.Given as goal
 
 abbrev pub invariant-loop-q : goal.invariant-loop-q

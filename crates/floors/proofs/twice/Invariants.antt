@@ -1,11 +1,6 @@
 -- Two jobs of each task, place by place. Assumes nothing.
-use borrow.Author.Rules.{rules}
-use mathlib.Core.Path.{◌≡◌}
 use Prim.Native.Nat.{◌≤◌, ◌-◌, ◌*◌, ◌^◌}
-use native.Mathlib.Nat.{le_refl}
-use native.Mathlib.Omega.{arith}
 use Rattle.counts.specs.Counts.{twice_of, Summed}
-use Rattle.counts.proofs.Sums.{summed-none, summed-next}
 use Rattle.floors.proofs.twice.Given as goal
 
 abbrev pub invariant-loop-i : goal.invariant-loop-i

@@ -1,9 +1,8 @@
 -- Two jobs of each task, core by core at the cores' weights. Assumes nothing.
 use borrow.Author.Rules.{rules}
 use mathlib.Core.Path.{◌≡◌}
-use Prim.Native.Nat.{◌≤◌, ◌-◌}
 use native.Mathlib.Omega.{arith}
-use Rattle.floors.proofs.Weighed.{Weighing, weighing_none, weighing_next}
+use Rattle.floors.proofs.Weighed.{weighing_none, weighing_next}
 use Rattle.floors.proofs.with_floor.Goals as goal
 
 pub loop-q-preserved : goal.loop-q-preserved

@@ -1,11 +1,9 @@
 -- The places of one core's tasks. Assumes nothing.
 use borrow.Author.Rules.{rules}
-use Prim.Native.Nat.{◌+◌, ◌≤◌, ◌-◌}
+use Prim.Native.Nat.{◌+◌}
 use mathlib.Core.Path.{◌≡◌}
 use native.Mathlib.Omega.{arith}
-use Rattle.standing.specs.OnCore.{places_on}
 use Rattle.standing.proofs.PlacesOn.{places_few}
-use Rattle.groups.specs.Grouped.{Joined}
 use Rattle.groups.proofs.Joining.{joined-none, joined-next}
 use Rattle.groups.proofs.group.Goals as goal
 

@@ -1,12 +1,7 @@
 -- The places of one core's tasks. Assumes nothing.
-use borrow.Author.Rules.{rules}
-use Prim.Native.Nat.{◌+◌, ◌≤◌, ◌-◌}
-use mathlib.Core.Path.{◌≡◌}
-use native.Mathlib.Omega.{arith}
+use Prim.Native.Nat.{◌≤◌, ◌-◌}
 use Rattle.standing.specs.OnCore.{places_on}
-use Rattle.standing.proofs.PlacesOn.{places_few}
 use Rattle.groups.specs.Grouped.{Joined}
-use Rattle.groups.proofs.Joining.{joined-none, joined-next}
 use Rattle.groups.proofs.group.Given as goal
 
 abbrev pub invariant-loop-i : goal.invariant-loop-i

@@ -1,6 +1,5 @@
 -- `hits::conf` meets its contract. Assumes nothing.
 use native.Mathlib.Omega.{arith}
-use borrow.Author.Rules.{rules}
 use Rattle.rules.specs.Delays.{reopen, conf}
 use Rattle.hits.proofs.conf.Goals as goal
 

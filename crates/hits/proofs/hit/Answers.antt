@@ -1,24 +1,22 @@
 -- `hits::hit` meets its contract. Assumes nothing.
 use native.Mathlib.Omega.{arith}
-use borrow.Author.Rules.{rules}
 use Rattle.rules.specs.Delays.{hit}
 use Rattle.hits.proofs.hit.Goals as goal
 
 pub returns : goal.returns
 unfolding hit
-returns c =
-    (
-      rw (
-        c.most-2.ensures,
-        c.most.ensures,
-        c.figure-4.ensures.0,
-        c.figure-3.ensures.0,
-        c.figure-2.ensures.0,
-        c.figure.ensures.0,
-        c.figure-half.ensures.0,
-      ),
-      omega arith,
-    )
+returns c = (
+  rw (
+    c.most-2.ensures,
+    c.most.ensures,
+    c.figure-4.ensures.0,
+    c.figure-3.ensures.0,
+    c.figure-2.ensures.0,
+    c.figure.ensures.0,
+    c.figure-half.ensures.0,
+  ),
+  omega arith,
+)
 
 pub overflow_add-read : goal.overflow_add-read
 overflow_add-read c = omega arith

@@ -1,6 +1,5 @@
 -- `hits::quotient` meets its contract. Assumes nothing.
 use native.Mathlib.Nat.{div-zero}
-use borrow.Author.Rules.{rules}
 use Rattle.hits.proofs.quotient.Goals as goal
 
 pub returns-then-b-eq0 : goal.returns-then-b-eq0

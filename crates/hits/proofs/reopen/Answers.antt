@@ -1,6 +1,5 @@
 -- `hits::reopen` meets its contract. Assumes nothing.
 use native.Mathlib.Omega.{arith}
-use borrow.Author.Rules.{rules}
 use Rattle.rules.specs.Delays.{reopen}
 use Rattle.hits.proofs.reopen.Goals as goal
 

@@ -1,6 +1,5 @@
 -- `hits::window` meets its contract. Assumes nothing.
 use mathlib.Core.Path.{sym, ◌∙◌}
-use borrow.Author.Rules.{rules}
 use borrow.Author.Tests.{eq-eqb, ne_eqb}
 use Rattle.rules.specs.Timing.{unknown}
 use Rattle.rules.specs.Delays.{window}

@@ -1,5 +1,4 @@
 -- What the tasks of one core cost. Assumes nothing.
-use borrow.Author.Rules.{rules}
 use Prim.Native.Nat.{zero-le, ◌≤◌, ◌-◌, ◌*◌, ◌^◌}
 use native.Mathlib.Nat.{mul-zero, mul-le-mul}
 use native.Mathlib.Omega.{arith}

@@ -1,9 +1,8 @@
 -- Job from its floor, core by core, and no further than request. Assumes nothing.
 use borrow.Author.Rules.{rules}
 use mathlib.Core.Path.{◌≡◌, refl}
-use Prim.Native.Nat.{◌≤◌, ◌-◌}
 use native.Mathlib.Omega.{arith}
-use Rattle.job.proofs.Cores.{Added, added_none, added_next, reached-all, reached-early, reached-first}
+use Rattle.job.proofs.Cores.{added_none, added_next, reached-all, reached-early, reached-first}
 use Rattle.job.proofs.reached.Goals as goal
 
 pub returns-then-t-eq0 : goal.returns-then-t-eq0
@@ -23,7 +22,6 @@ returns c =
     let l = c.loop-q in
     let last : l.q ≡ c.args.others.cores = omega arith in
     reached-all c.requires.groups l.invariant.1 (rw last at l.invariant.2)
-
 
 pub loop-q-init : goal.loop-q-init
 loop-q-init c = (search rules, omega arith, added_none c.requires.groups)

@@ -1,9 +1,6 @@
 -- Job from its floor, core by core, and no further than request. Assumes nothing.
-use borrow.Author.Rules.{rules}
-use mathlib.Core.Path.{◌≡◌, refl}
 use Prim.Native.Nat.{◌≤◌, ◌-◌}
-use native.Mathlib.Omega.{arith}
-use Rattle.job.proofs.Cores.{Added, added_none, added_next, reached-all, reached-early, reached-first}
+use Rattle.job.proofs.Cores.{Added}
 use Rattle.job.proofs.reached.Given as goal
 
 abbrev pub invariant-loop-q : goal.invariant-loop-q

@@ -1,5 +1,4 @@
 -- The judgement of all tasks: the checks before it, then 13, 14 or the answers. Assumes nothing.
-use borrow.Author.Rules.{rules}
 use mathlib.Core.Path.{◌∙◌, ap}
 use Rattle.facts.proofs.Chain.{passes, refuses}
 use Rattle.unjudged.specs.Unjudged.{none_judged}

@@ -1,5 +1,4 @@
 -- A refused judgement of one. Assumes nothing.
-use borrow.Author.Rules.{rules}
 use Rattle.columns.specs.Numbered.{not_judged}
 use Rattle.judge.proofs.not_judged.Goals as goal
 

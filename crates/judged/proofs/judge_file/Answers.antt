@@ -1,7 +1,6 @@
 -- `judge_file` meets its contract. Assumes nothing.
 use mathlib.Core.Path.{◌≡◌, ap, ◌∙◌}
 use mathlib.Core.Bool.{true}
-use borrow.Author.Rules.{rules}
 use native.Mathlib.Omega.{arith}
 use Rattle.rules.specs.Chain.{is_accepted}
 use Rattle.rules.specs.File.{decode}
@@ -26,7 +25,6 @@ returns-then-refusal-ne0 c =
 
 pub store-requires : goal.store-requires
 store-requires c = rw c.size.ensures.value (file_counts _ (judged_file _ (accepts (goal.at.store-requires c).After-all_starts))).1
-
 
 pub judge_accepted-judged-requires : goal.judge_accepted-judged-requires
 judge_accepted-judged-requires c = accepts c

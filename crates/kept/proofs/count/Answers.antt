@@ -1,20 +1,17 @@
 -- The records before the first that is not sound. Assumes nothing.
 use borrow.Author.Rules.{rules}
 use mathlib.Core.Path.{◌≡◌, sym, ◌∙◌}
-use Prim.Native.Nat.{ℕ, ◌+◌, ◌-◌, ◌≤◌}
+use Prim.Native.Nat.{◌+◌}
 use native.Mathlib.Omega.{arith}
-use borrow.Author.Tests.{not-true, not-false}
 use Rattle.rules.specs.File.{tasks_in}
 use Rattle.rules.specs.Salvage.{is_sound, kept}
 use Rattle.fields.proofs.Steps.{header-there}
-use Rattle.kept.proofs.Leading.{Counted, counted_none, counted_next, counted_stop, counted-all}
+use Rattle.kept.proofs.Leading.{counted_none, counted_next, counted_stop, counted-all}
 use Rattle.kept.proofs.count.Goals.{After-is_sound}
 use Rattle.kept.proofs.count.Goals as goal
 
 looked : (c : After-is_sound) → c.is_sound.result ≡ is_sound c.args.file.now (c.loop-i.i + 1)
 looked c = rw c.size.ensures.value at c.is_sound.ensures
-
-
 
 pub returns : goal.returns
 unfolding kept

@@ -1,5 +1,4 @@
 -- A record that is whole and without a fault. Assumes nothing.
-use borrow.Author.Rules.{rules}
 use Prim.Native.Nat.{◌+◌, ◌≤◌}
 use lib.ListN.{length}
 use Rattle.rules.specs.File.{record_size, record_at, cores_in, form_in}

@@ -1,6 +1,4 @@
 -- A fault in a task, as a walk over it alone finds it. Assumes nothing.
-use borrow.Author.Rules.{rules}
-use mathlib.Core.Path.{◌∙◌}
 use Rattle.kept.proofs.Found.{found}
 use Rattle.kept.proofs.task_fault.Goals as goal
 

@@ -1,5 +1,4 @@
 -- The two sums out of the lanes. Assumes nothing.
-use borrow.Author.Rules.{rules}
 use Rattle.lanes.proofs.out_of_lanes.Goals as goal
 
 pub returns : goal.returns

@@ -1,12 +1,12 @@
 -- Words in lanes: after k of them the lanes hold the sums of the first k. Assumes nothing.
-use Prim.Native.Nat.{ℕ, ◌+◌, ◌-◌, ◌/◌, ◌<◌, ◌≤◌}
+use Prim.Native.Nat.{ℕ, ◌+◌, ◌/◌, ◌<◌}
 use mathlib.Core.Path.{◌∙◌}
 use native.Mathlib.Omega.{arith}
 use borrow.Author.Rules.{rules}
 use lib.ListN.{get_or}
 use Rattle.lanes.specs.Lanes.{evens_of}
 use Rattle.lanes.proofs.Words.{Held, held_none, held_next, held_fits, early-fits, sums_in_lem}
-use Rattle.lanes.proofs.word_sums.Goals.{After-le64-w, At-loop-k}
+use Rattle.lanes.proofs.word_sums.Goals.{After-le64-w}
 use Rattle.lanes.proofs.word_sums.Goals as goal
 
 byte : (c : After-le64-w) (i : ℕ) → get_or c.args.s.now i 0 < 256

@@ -1,11 +1,6 @@
 -- Words in lanes: after k of them the lanes hold the sums of the first k. Assumes nothing.
-use Prim.Native.Nat.{ℕ, ◌+◌, ◌-◌, ◌/◌, ◌<◌, ◌≤◌}
-use mathlib.Core.Path.{◌∙◌}
-use native.Mathlib.Omega.{arith}
-use borrow.Author.Rules.{rules}
-use lib.ListN.{get_or}
-use Rattle.lanes.specs.Lanes.{evens_of}
-use Rattle.lanes.proofs.Words.{Held, held_none, held_next, held_fits, early-fits, sums_in_lem}
+use Prim.Native.Nat.{◌-◌, ◌≤◌}
+use Rattle.lanes.proofs.Words.{Held}
 use Rattle.lanes.proofs.word_sums.Given as goal
 
 abbrev pub invariant-loop-k : goal.invariant-loop-k

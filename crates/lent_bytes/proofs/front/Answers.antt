@@ -1,7 +1,6 @@
 -- `front` meets its contract. Assumes nothing.
 use mathlib.Core.Path.{sym}
 use native.Mathlib.Omega.{arith}
-use borrow.Author.Rules.{rules}
 use lib.Seq.{take_all, length-take-le}
 use Rattle.lent_bytes.proofs.front.Goals as goal
 

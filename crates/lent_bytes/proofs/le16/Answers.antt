@@ -1,7 +1,6 @@
 -- The number of two bytes, by its two bytes. Assumes nothing.
 use Prim.Native.Nat.{◌+◌}
 use native.Mathlib.Omega.{arith}
-use borrow.Author.Rules.{rules}
 use Rattle.laws.proofs.Parts.{number-part, number-one}
 use Rattle.lent_bytes.proofs.le16.Goals as goal
 

@@ -1,5 +1,4 @@
 -- The number of eight bytes, by its two halves. Assumes nothing.
-use borrow.Author.Rules.{rules}
 use native.Mathlib.Omega.{arith}
 use Rattle.laws.proofs.Parts.{number-part}
 use Rattle.lent_bytes.proofs.le64.Goals as goal

@@ -3,12 +3,11 @@ use Prim.Native.Nat.{ℕ, ◌+◌, ◌-◌}
 use mathlib.Core.Path.{◌≡◌, sym, ◌∙◌}
 use mathlib.Core.Bool.{Bool}
 use mathlib.Core.List.{List}
-use borrow.Author.Rules.{rules}
 use native.Mathlib.Omega.{arith}
 use lib.ListN.{get_or}
 use Rattle.laws.specs.Idioms.{entry}
 use Rattle.rules.specs.Refusals.{set_fault}
-use Rattle.facts.proofs.First.{Left, left-all, left-hit, left-next, left-none}
+use Rattle.facts.proofs.First.{left-all, left-hit, left-next, left-none}
 use Rattle.limits.proofs.check_sets.Goals as goal
 
 -- the set in place i is that of core i + 1

@@ -1,14 +1,8 @@
 -- The first core whose set is at fault. Assumes nothing.
-use Prim.Native.Nat.{ℕ, ◌+◌, ◌-◌}
-use mathlib.Core.Path.{◌≡◌, sym, ◌∙◌}
-use mathlib.Core.Bool.{Bool}
-use mathlib.Core.List.{List}
-use borrow.Author.Rules.{rules}
-use native.Mathlib.Omega.{arith}
-use lib.ListN.{get_or}
+use Prim.Native.Nat.{◌-◌}
 use Rattle.laws.specs.Idioms.{entry}
 use Rattle.rules.specs.Refusals.{set_fault}
-use Rattle.facts.proofs.First.{Left, left-all, left-hit, left-next, left-none}
+use Rattle.facts.proofs.First.{Left}
 use Rattle.limits.proofs.check_sets.Given as goal
 
 abbrev pub invariant-loop-i : goal.invariant-loop-i

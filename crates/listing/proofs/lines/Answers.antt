@@ -1,6 +1,5 @@
 -- `lines` meets its contract: what the check gave decides which text is given. Assumes nothing.
 use native.Mathlib.Omega.{arith}
-use borrow.Author.Rules.{rules}
 use Rattle.listing.proofs.TableLines.{text-refused, text-accepted, text-whole}
 use Rattle.listing.proofs.lines.Goals as goal
 

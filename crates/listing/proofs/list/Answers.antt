@@ -1,6 +1,5 @@
 -- `list` meets its contract: what reading gives is what the listing is made of. Assumes nothing.
 use native.Mathlib.Omega.{arith}
-use borrow.Author.Rules.{rules}
 use Rattle.admit_file.proofs.WasToJudge.{table-judged}
 use Rattle.listing.proofs.Listed.{listed-refused, listed-table}
 use Rattle.listing.proofs.list.Goals as goal

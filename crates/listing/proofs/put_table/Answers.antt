@@ -1,6 +1,5 @@
 -- `put_table` meets its contract: three texts one after the other. Assumes nothing.
 use native.Mathlib.Omega.{arith}
-use borrow.Author.Rules.{rules}
 use Rattle.text.proofs.Put.{◌then◌}
 use Rattle.listing.proofs.TableLines.{table-lines}
 use Rattle.listing.proofs.put_table.Goals as goal

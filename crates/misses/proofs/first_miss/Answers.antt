@@ -1,10 +1,8 @@
 -- `first_miss` meets its contract. The invariant: the last line is that from here on. Assumes nothing.
-use mathlib.Core.Path.{◌≡◌, ◌∙◌, sym}
-use Prim.Native.Nat.{◌-◌, ◌≤◌}
+use mathlib.Core.Path.{◌∙◌, sym}
 use native.Mathlib.Omega.{arith}
 use borrow.Author.Rules.{rules}
-use Rattle.misses.specs.Last.{last}
-use Rattle.misses.proofs.Missed.{last_from, last-start, last_none, last-hit, last_pass}
+use Rattle.misses.proofs.Missed.{last-start, last_none, last-hit, last_pass}
 use Rattle.misses.proofs.first_miss.Goals as goal
 
 pub returns-then-is_miss : goal.returns-then-is_miss

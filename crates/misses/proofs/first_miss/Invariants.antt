@@ -1,10 +1,8 @@
 -- `first_miss` meets its contract. The invariant: the last line is that from here on. Assumes nothing.
-use mathlib.Core.Path.{◌≡◌, ◌∙◌, sym}
+use mathlib.Core.Path.{◌≡◌}
 use Prim.Native.Nat.{◌-◌, ◌≤◌}
-use native.Mathlib.Omega.{arith}
-use borrow.Author.Rules.{rules}
 use Rattle.misses.specs.Last.{last}
-use Rattle.misses.proofs.Missed.{last_from, last-start, last_none, last-hit, last_pass}
+use Rattle.misses.proofs.Missed.{last_from}
 use Rattle.misses.proofs.first_miss.Given as goal
 
 abbrev pub invariant-loop-i : goal.invariant-loop-i

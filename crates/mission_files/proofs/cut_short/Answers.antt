@@ -1,5 +1,4 @@
 -- A cut file is refused by `check`. Assumes nothing.
-use borrow.Author.Rules.{rules}
 use Rattle.facts.proofs.Reading.{refusal_read}
 use Rattle.file_claims.proofs.Files.{point_one}
 use Rattle.mission_files.proofs.cut_short.Goals as goal

@@ -1,5 +1,4 @@
 -- Writing what `read` gave returns the file. Assumes nothing.
-use borrow.Author.Rules.{rules}
 use mathlib.Core.Path.{refl}
 use native.Mathlib.Omega.{arith}
 use Prim.Native.Nat.{ℕ, ◌<◌}
@@ -7,7 +6,6 @@ use lib.ListN.{get_or}
 use Rattle.file_claims.proofs.Files.{return_in_place}
 use Rattle.laws.proofs.ByteLists.{bytes_by_place}
 use Rattle.mission_files.proofs.read_then_written.Goals as goal
-
 
 pub returns : goal.returns
 returns c =

@@ -7,7 +7,6 @@ use Rattle.file_claims.proofs.Files.{point_one}
 use Rattle.mission_files.proofs.OneByte.{refused-then}
 use Rattle.mission_files.proofs.whole_altered.Goals as goal
 
-
 pub returns : goal.returns
 returns c = let a = c.args in
     let are = c.alter.ensures in

@@ -1,5 +1,4 @@
 -- A cut file did not come whole. Assumes nothing.
-use borrow.Author.Rules.{rules}
 use Rattle.file_claims.proofs.Files.{point_one}
 use Rattle.mission_files.proofs.whole_cut_short.Goals as goal
 

@@ -1,5 +1,4 @@
 -- The counts, one after the other. Assumes nothing.
-use borrow.Author.Rules.{rules}
 use Rattle.changes.specs.Difference.{counts_difference}
 use Rattle.order.proofs.counts_difference.Goals as goal
 

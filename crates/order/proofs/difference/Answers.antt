@@ -1,5 +1,4 @@
 -- The boards of two tables compared, then their tasks. Assumes nothing.
-use borrow.Author.Rules.{rules}
 use Rattle.changes.specs.Difference.{difference}
 use Rattle.order.proofs.difference.Goals as goal
 

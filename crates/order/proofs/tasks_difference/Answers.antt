@@ -5,11 +5,11 @@ use Prim.Native.Nat.{ℕ, ◌+◌, ◌-◌, ◌≤◌, ◌<◌}
 use native.Mathlib.Omega.{arith}
 use lib.ListN.{length, get_or, get_or-eq_default}
 use Rattle.rules.specs.declared.Table.{Table}
-use Rattle.rules.specs.Tasks.{no_task, task_of}
+use Rattle.rules.specs.Tasks.{no_task}
 use Rattle.laws.proofs.Runs.{unmapped}
 use Rattle.changes.specs.declared.Change.{Change}
 use Rattle.changes.specs.Difference.{none, ◌or_else◌, task_difference, tasks_difference}
-use Rattle.changes.proofs.First.{Left, left-all, left-hit, left-next, left-clear, left-none}
+use Rattle.changes.proofs.First.{left-all, left-hit, left-next, left-clear, left-none}
 use Rattle.order.proofs.tasks_difference.Invariants.{at}
 use Rattle.order.proofs.tasks_difference.Goals.{Start}
 use Rattle.order.proofs.tasks_difference.Goals as goal

@@ -1,15 +1,10 @@
 -- The tasks of two tables compared, place by place. Assumes nothing.
-use borrow.Author.Rules.{rules}
-use mathlib.Core.Path.{◌≡◌}
-use Prim.Native.Nat.{ℕ, ◌+◌, ◌-◌, ◌≤◌, ◌<◌}
-use native.Mathlib.Omega.{arith}
-use lib.ListN.{length, get_or, get_or-eq_default}
+use Prim.Native.Nat.{ℕ, ◌-◌, ◌≤◌}
 use Rattle.rules.specs.declared.Table.{Table}
-use Rattle.rules.specs.Tasks.{no_task, task_of}
-use Rattle.laws.proofs.Runs.{unmapped}
+use Rattle.rules.specs.Tasks.{task_of}
 use Rattle.changes.specs.declared.Change.{Change}
-use Rattle.changes.specs.Difference.{none, ◌or_else◌, task_difference, tasks_difference}
-use Rattle.changes.proofs.First.{Left, left-all, left-hit, left-next, left-clear, left-none}
+use Rattle.changes.specs.Difference.{task_difference}
+use Rattle.changes.proofs.First.{Left}
 use Rattle.order.proofs.tasks_difference.Given as goal
 
 abbrev pub at : Table → Table → ℕ → Change

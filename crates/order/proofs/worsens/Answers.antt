@@ -1,5 +1,4 @@
 -- A table is worsened where no change is told. Assumes nothing.
-use borrow.Author.Rules.{rules}
 use Rattle.order.proofs.Told.{agrees}
 use Rattle.order.proofs.worsens.Goals as goal
 

@@ -1,5 +1,4 @@
 -- `store` meets its contract. Assumes nothing.
-use borrow.Author.Rules.{rules}
 use borrow.Author.Tests.{eq-eqb, ne_eqb}
 use Rattle.stored.proofs.Laid.{unchanged}
 use Rattle.outcome.proofs.store.Goals as goal

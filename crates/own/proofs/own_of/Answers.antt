@@ -1,5 +1,4 @@
 -- A task's own figures. Assumes nothing.
-use borrow.Author.Rules.{rules}
 use mathlib.Core.Path.{◌∙◌}
 use Rattle.floors.proofs.Weighed.{others_are}
 use Rattle.own.proofs.own_of.Goals as goal

@@ -1,10 +1,7 @@
 -- One piece of a text, as the loop finds it. Assumes nothing.
-use borrow.Author.Rules.{rules}
-use mathlib.Core.Path.{sym}
 use Prim.Native.Nat.{◌-◌, ◌≤◌}
-use native.Mathlib.Omega.{arith}
 use lib.ListN.{length}
-use Rattle.pieces.proofs.Walk.{Left, left-all, left_end, left-found, left_mark, left_byte}
+use Rattle.pieces.proofs.Walk.{Left}
 use Rattle.pieces.proofs.piece.Given as goal
 
 abbrev pub invariant-loop-i : goal.invariant-loop-i

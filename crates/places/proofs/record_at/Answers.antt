@@ -2,7 +2,6 @@
 use Prim.Native.Nat.{◌*◌, ◌≤◌}
 use native.Mathlib.Nat.{mul-le-mul}
 use native.Mathlib.Omega.{arith}
-use borrow.Author.Rules.{rules}
 use Rattle.places.proofs.Places.{records_are, record-place}
 use Rattle.places.proofs.record_at.Goals.{After-record_size}
 use Rattle.places.proofs.record_at.Goals as goal

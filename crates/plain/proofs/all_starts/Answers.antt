@@ -1,12 +1,11 @@
 -- `all_starts` meets its contract. The invariant: the first i starts are in their places. Assumes nothing.
 use mathlib.Core.Path.{◌≡◌, refl}
-use Prim.Native.Nat.{◌-◌, ◌≤◌}
+use Prim.Native.Nat.{◌≤◌}
 use native.Mathlib.Omega.{arith}
 use borrow.Author.Rules.{rules}
 use borrow.Author.Tests.{ltb-true, ltb-false}
-use lib.ListN.{length, take}
+use lib.ListN.{length}
 use lib.Seq.{take_all}
-use Rattle.laws.specs.Idioms.{filled}
 use Rattle.laws.proofs.Filled.{filled_next}
 use Rattle.plain.proofs.all_starts.Goals as goal
 

@@ -1,5 +1,4 @@
 -- `code` meets its contract. Assumes nothing.
-use borrow.Author.Rules.{rules}
 use borrow.Author.Tests.{eq-eqb, ne_eqb}
 use Rattle.plain.proofs.code.Goals as goal
 

@@ -1,10 +1,7 @@
 -- The walk over the ranges gives the first figure at fault. Assumes nothing.
 use Prim.Native.Nat.{◌-◌}
-use mathlib.Core.Path.{sym, ◌∙◌}
-use borrow.Author.Rules.{rules}
 use Rattle.rules.specs.Refusals.{figure_fault}
-use Rattle.facts.proofs.First.{Left, left-all, left-hit, left-next, left-none}
-use Rattle.ranges.proofs.Table.{fault_at}
+use Rattle.facts.proofs.First.{Left}
 use Rattle.ranges.specs.Ranges.{AreRanges}
 use Rattle.ranges.proofs.check_ranges.Given as goal
 

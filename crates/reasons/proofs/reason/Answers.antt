@@ -1,5 +1,4 @@
 -- `reason` meets its contract: the piece in a number's place is its text. Assumes nothing.
-use borrow.Author.Rules.{rules}
 use mathlib.Core.Path.{◌∙◌}
 use Rattle.reasons.specs.Reasons.{numbered_texts}
 use Rattle.reasons.proofs.Texts.{own-text, piece-text, reason-length}

@@ -1,7 +1,6 @@
 -- `carry_files` meets its contract: the older file's refusals, the newer's, then the outputs. Assumes nothing.
 use mathlib.Core.Path.{◌≡◌}
 use mathlib.Core.Bool.{true}
-use borrow.Author.Rules.{rules}
 use Rattle.rules.specs.Chain.{is_accepted}
 use Rattle.rules.specs.Operations.{check_to_judge}
 use Rattle.admit_file.proofs.WasToJudge.{was-accepted, table_of, table-judged}
@@ -25,11 +24,10 @@ returns-then-second-ne0 c =
 pub store_after-last-requires : goal.store_after-last-requires
 store_after-last-requires c = record { older_value = table-judged _ c.read-was.ensures c.if-first-ne0.false; newer_value = table-judged _ c.read-is.ensures c.if-second-ne0.false }
 
-
 pub returns : goal.returns
 returns c =
     let first = c.read-was.ensures in
     let second = c.read-is.ensures in
     let h = files-judged _ _ _ _ _ (older-passes (goal.at.returns c).After-second-1) (was-accepted _ second c.if-second-ne0.false) (table_of _ first c.if-first-ne0.false) (table_of _ second c.if-second-ne0.false)
-        c.store_after-last.ensures.value c.store_after-last.ensures.stored in
+    c.store_after-last.ensures.value c.store_after-last.ensures.stored in
     record { value = h.0; carried_files = h.1 }

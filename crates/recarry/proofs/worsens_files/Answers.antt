@@ -1,7 +1,6 @@
 -- `worsens_files` meets its contract. Assumes nothing.
 use mathlib.Core.Path.{◌≡◌, ◌∙◌}
 use mathlib.Core.Bool.{true}
-use borrow.Author.Rules.{rules}
 use Rattle.rules.specs.Chain.{is_accepted}
 use Rattle.rules.specs.Operations.{check_to_judge}
 use Rattle.admit_file.proofs.WasToJudge.{not_accepted, was-accepted, table_of}

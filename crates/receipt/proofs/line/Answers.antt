@@ -1,10 +1,8 @@
 -- `line` meets its contract. Assumes nothing.
 use native.Mathlib.Omega.{arith}
-use borrow.Author.Rules.{rules}
 use Rattle.facts.proofs.Chain.{passes, refuses}
 use Rattle.receipt.proofs.Receipt.{receipt-whole, receipt-refused}
 use Rattle.receipt.proofs.line.Goals as goal
-
 
 pub returns : goal.returns
 returns c = let is = receipt-whole _ (passes c.whole-came.ensures c.if-came-ne0.false) in

@@ -1,13 +1,8 @@
 -- `refused` meets its contract. Assumes nothing.
-use mathlib.Core.Path.{sym}
 use native.Mathlib.Omega.{arith}
-use borrow.Author.Rules.{rules}
-use lib.Seq.{length-take-le}
 use Rattle.text.proofs.Put.{front_length, front}
 use Rattle.rules.specs.Listing.{refused_line}
 use Rattle.receipt.proofs.refused.Goals as goal
-
-
 
 pub returns : goal.returns
 unfolding refused_line

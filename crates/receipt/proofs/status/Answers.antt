@@ -1,6 +1,5 @@
 -- `status` meets its contract. Assumes nothing.
 use mathlib.Core.Path.{sym}
-use borrow.Author.Rules.{rules}
 use Rattle.facts.proofs.Chain.{passes, refuses}
 use Rattle.receipt.proofs.Receipt.{status_whole, status_refused}
 use Rattle.receipt.proofs.status.Goals as goal

@@ -1,8 +1,6 @@
 -- A record's five figures. Assumes nothing.
-use borrow.Author.Rules.{rules}
 use Rattle.records.proofs.Record.{record_stores}
 use Rattle.records.proofs.put_task.Goals as goal
-
 
 pub returns : goal.returns
 returns c =

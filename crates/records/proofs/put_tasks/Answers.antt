@@ -1,14 +1,11 @@
 -- The records of the tasks, stored place by place. Assumes nothing.
-use Prim.Native.Nat.{◌+◌, ◌*◌, ◌-◌, ◌≤◌}
+use Prim.Native.Nat.{◌+◌, ◌*◌}
 use mathlib.Core.Path.{◌≡◌, ◌∙◌}
-use mathlib.Core.List.{map}
 use native.Mathlib.Omega.{arith}
 use borrow.Author.Rules.{rules}
-use lib.ListN.{length, take}
-use lib.Seq.{sets}
+use lib.ListN.{length}
 use Rattle.rules.specs.Tasks.{no_task}
 use Rattle.rules.specs.File.{records_at, record_size, record_bytes}
-use Rattle.laws.specs.Idioms.{joined}
 use Rattle.laws.proofs.Runs.{unmapped, store_next}
 use Rattle.places.proofs.Places.{record_limit, record-place, record_within}
 use Rattle.records.proofs.Record.{record_length}
@@ -22,8 +19,6 @@ pub put_task-requires : goal.put_task-requires
 put_task-requires c =
     let t = c.args.t in
     omega (arith, c.record_at.ensures.value, record_limit t.fourth, record_within t.fourth t.cores c.loop-done.done t.tasks (omega arith))
-
-
 
 pub loop-done-preserved : goal.loop-done-preserved
 loop-done-preserved c =

@@ -1,17 +1,11 @@
 -- The records of the tasks, stored place by place. Assumes nothing.
-use Prim.Native.Nat.{◌+◌, ◌*◌, ◌-◌, ◌≤◌}
-use mathlib.Core.Path.{◌≡◌, ◌∙◌}
+use Prim.Native.Nat.{◌-◌, ◌≤◌}
+use mathlib.Core.Path.{◌≡◌}
 use mathlib.Core.List.{map}
-use native.Mathlib.Omega.{arith}
-use borrow.Author.Rules.{rules}
 use lib.ListN.{length, take}
 use lib.Seq.{sets}
-use Rattle.rules.specs.Tasks.{no_task}
-use Rattle.rules.specs.File.{records_at, record_size, record_bytes}
+use Rattle.rules.specs.File.{records_at, record_bytes}
 use Rattle.laws.specs.Idioms.{joined}
-use Rattle.laws.proofs.Runs.{unmapped, store_next}
-use Rattle.places.proofs.Places.{record_limit, record-place, record_within}
-use Rattle.records.proofs.Record.{record_length}
 use Rattle.records.proofs.put_tasks.Given as goal
 
 abbrev pub invariant-loop-done : goal.invariant-loop-done

@@ -1,5 +1,4 @@
 -- A refused judgement of a newer table after an older one. Assumes nothing.
-use borrow.Author.Rules.{rules}
 use mathlib.Core.Path.{ap}
 use mathlib.Core.Bool.{false}
 use Rattle.rules.specs.declared.AllJudged.{AllJudged}

@@ -1,5 +1,5 @@
 -- An inverse is not too large. Assumes nothing.
-use Rattle.std.proofs.Common.{div-lt_iff_lt-mul, arith, rules}
+use Rattle.std.proofs.Common.{div-lt_iff_lt-mul, arith}
 use Rattle.releases.proofs.inverse.Goals as goal
 
 pub returns : goal.returns

@@ -1,6 +1,5 @@
 -- An inverse for each period. Assumes nothing.
-use Rattle.std.proofs.Common.{◌-◌, ◌≤◌, rules}
-use Rattle.releases.specs.Releases.{Small}
+use Rattle.std.proofs.Common.{rules}
 use Rattle.releases.proofs.Quotients.{small-next}
 use Rattle.releases.proofs.inverses.Goals as goal
 

@@ -1,7 +1,6 @@
 -- An inverse for each period. Assumes nothing.
-use Rattle.std.proofs.Common.{◌-◌, ◌≤◌, rules}
+use Rattle.std.proofs.Common.{◌-◌, ◌≤◌}
 use Rattle.releases.specs.Releases.{Small}
-use Rattle.releases.proofs.Quotients.{small-next}
 use Rattle.releases.proofs.inverses.Given as goal
 
 abbrev pub invariant-loop-i : goal.invariant-loop-i

@@ -1,5 +1,4 @@
 -- `put_counts` meets its contract: three phrases one after the other. Assumes nothing.
-use borrow.Author.Rules.{rules}
 use native.Mathlib.Omega.{arith}
 use Rattle.text.proofs.Put.{◌then◌}
 use Rattle.report.proofs.Lines.{counts-line}

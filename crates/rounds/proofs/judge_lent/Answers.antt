@@ -1,18 +1,17 @@
 -- 13, then 14, or every task's answer. Assumes nothing.
-use borrow.Author.Rules.{rules}
 use mathlib.Core.Path.{◌≡◌, refl, sym, ap, ◌∙◌}
-use Prim.Native.Nat.{ℕ, ◌+◌, ◌-◌, ◌≤◌, ◌<◌}
+use Prim.Native.Nat.{ℕ, ◌-◌, ◌≤◌, ◌<◌}
 use native.Mathlib.Omega.{arith}
 use lib.ListN.{get_or}
 use Rattle.laws.specs.Idioms.{Within}
 use Rattle.climb.specs.declared.Climbed.{Climbed}
-use Rattle.rounds.specs.Lent.{Lent, lent_of, place_at, own_at, climbed_at, Judgeable}
+use Rattle.rounds.specs.Lent.{Lent, lent_of, place_at, Judgeable}
 use Rattle.releases.proofs.Quotients.{small-none}
 use Rattle.unjudged.proofs.OnTime.{on_time}
-use Rattle.rounds.proofs.Nexts.{Nexts, nexts_none, nexts_next, next_at}
+use Rattle.rounds.proofs.Nexts.{nexts_none, nexts_next, next_at}
 use Rattle.rounds.proofs.Here.{fits_at, own_at_lem, here-ready, here_gives}
-use Rattle.rounds.proofs.Judging.{Judging, Running, judging_starts, still-running, stops-high, goes_on_low, judging_done}
-use Rattle.rounds.proofs.judge_lent.Goals.{Start, In-loop-i, After-settle-climbed, then-climbed, else-climbed}
+use Rattle.rounds.proofs.Judging.{Running, judging_starts, still-running, stops-high, goes_on_low, judging_done}
+use Rattle.rounds.proofs.judge_lent.Goals.{Start, In-loop-i, then-climbed, else-climbed}
 use Rattle.rounds.proofs.judge_lent.Given as given
 use Rattle.rounds.proofs.judge_lent.Goals as goal
 
@@ -137,13 +136,13 @@ loop-i-preserved g c =
     let gives = c.settle-climbed.ensures ∙ here_gives all c.loop-i.i own starts in
     let high = ap (λ (r : Climbed). r.high) gives in (
       elim c.if-climbed.branch [
-        then-climbed w ↦
-          stops-high all starts (runs g p) (here g p) (sym high ∙ w.if-climbed.true) w.end-is (w.refusal-is ∙ w.refused-refusal.ensures) (w.answers-is ∙ w.no_answers-answers-then-climbed.ensures)
+        | then-climbed w ↦
+            stops-high all starts (runs g p) (here g p) (sym high ∙ w.if-climbed.true) w.end-is (w.refusal-is ∙ w.refused-refusal.ensures) (w.answers-is ∙ w.no_answers-answers-then-climbed.ensures)
         | else-climbed w ↦
-          rw (w.answers-is, w.refusal-is, w.end-is)
-          (goes_on_low all starts (runs g p) (here g p) (few g p) (sym high ∙ w.if-climbed.false) (ap (λ (r : Climbed). r.answer) gives))
+            rw (w.answers-is, w.refusal-is, w.end-is)
+            (goes_on_low all starts (runs g p) (here g p) (few g p) (sym high ∙ w.if-climbed.false) (ap (λ (r : Climbed). r.answer) gives))
       ],
-      nexts_next c.args.core.now c.loop-i.i (core_in g p) c.loop-i.invariant.1 refl
+      nexts_next c.args.core.now c.loop-i.i (core_in g p) c.loop-i.invariant.1 refl,
     )
 
 pub returns : goal.returns

@@ -1,5 +1,4 @@
 -- 13, then 14, or every task's answer. Assumes nothing.
-use mathlib.Core.Path.{◌≡◌}
 use Prim.Native.Nat.{◌-◌}
 use Rattle.rounds.specs.Lent.{lent_of}
 use Rattle.rounds.proofs.Nexts.{Nexts}

@@ -1,13 +1,9 @@
 -- `put_rows` meets its contract. The invariant: the lines of the tasks passed have been put. Assumes nothing.
 use mathlib.Core.Path.{◌≡◌}
 use Prim.Native.Nat.{◌+◌, ◌-◌, ◌*◌, ◌≤◌}
-use native.Mathlib.Omega.{arith}
-use borrow.Author.Rules.{rules}
 use lib.ListN.{length}
 use Rattle.rows.specs.Rows.{rows}
 use Rattle.text.specs.Put.{Put}
-use Rattle.text.proofs.Put.{nothing, ◌then◌}
-use Rattle.rows.proofs.TaskLines.{rows_none, rows_next}
 use Rattle.rows.proofs.put_rows.Given as goal
 
 abbrev pub invariant-loop-i : goal.invariant-loop-i

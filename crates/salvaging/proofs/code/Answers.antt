@@ -1,6 +1,5 @@
 -- `code` meets its contract. Assumes nothing.
 use native.Mathlib.Omega.{arith}
-use borrow.Author.Rules.{rules}
 use Rattle.plain.specs.Codes.{salvage_code}
 use Rattle.salvaging.proofs.code.Goals as goal
 

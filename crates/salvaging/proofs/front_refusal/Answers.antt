@@ -1,5 +1,4 @@
 -- 19, 17, then 5 to 8 and 16. Assumes nothing.
-use borrow.Author.Rules.{rules}
 use mathlib.Core.Path.{◌≡◌, ◌∙◌}
 use mathlib.Core.Bool.{false}
 use Prim.Native.Nat.{◌<◌, ◌≤◌}

@@ -1,5 +1,4 @@
 -- Salvaging: its refusals in their order, then the new file. Assumes nothing.
-use borrow.Author.Rules.{rules}
 use mathlib.Core.Path.{◌≡◌, sym, ◌∙◌}
 use Prim.Native.Nat.{◌≤◌}
 use mathlib.Core.Bool.{true}
@@ -39,8 +38,6 @@ returns-then-n-eq0 c =
 pub write_kept-written-requires : goal.write_kept-written-requires
 write_kept-written-requires c = let front = front-passes (goal.at.write_kept-written-requires c).Else-refusal-ne0 in
     record { file_value = front-late _ front; file_value_2 = front-board-passed _ front; n_value = c.count-n.ensures }
-
-
 
 pub bounds-file-2 : goal.bounds-file-2
 bounds-file-2 c = omega (arith, long (goal.at.bounds-file-2 c).Else-refusal-ne0)

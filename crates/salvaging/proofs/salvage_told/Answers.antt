@@ -1,5 +1,4 @@
 -- `salvage_told` meets its contract. Assumes nothing.
-use borrow.Author.Rules.{rules}
 use Rattle.salvaging.proofs.salvage_told.Goals as goal
 
 pub returns : goal.returns

@@ -1,5 +1,4 @@
 -- Where it stopped. Assumes nothing.
-use borrow.Author.Rules.{rules}
 use native.Mathlib.Omega.{arith}
 use borrow.Author.Tests.{eq-eqb, ne_eqb}
 use Rattle.salvaging.proofs.stop.Goals as goal

@@ -1,12 +1,10 @@
 -- The table of the kept records, written. Assumes nothing.
-use borrow.Author.Rules.{rules}
 use native.Mathlib.Omega.{arith}
 use Rattle.rules.specs.Salvage.{salvaged_table}
 use Rattle.fields.proofs.Steps.{header-there}
 use Rattle.kept.proofs.Kept.{kept_reach}
 use Rattle.salvaging.proofs.Links.{reached, board-counts}
 use Rattle.salvaging.proofs.write_kept.Goals as goal
-
 
 pub returns : goal.returns
 unfolding salvaged_table

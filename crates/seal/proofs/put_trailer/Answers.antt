@@ -1,7 +1,6 @@
 -- The trailer of what stands before it. Assumes nothing.
 use mathlib.Core.Path.{◌≡◌, sym}
 use native.Mathlib.Omega.{arith}
-use borrow.Author.Rules.{rules}
 use lib.ListN.{length, take}
 use lib.Seq.{length-take-le}
 use Rattle.seal.proofs.Stores.{trailer_stores}

@@ -1,7 +1,6 @@
 -- `task_count` meets its contract. Assumes nothing.
 use mathlib.Core.Path.{◌≡◌, sym, ◌∙◌}
 use native.Mathlib.Omega.{arith}
-use borrow.Author.Rules.{rules}
 use borrow.Author.Tests.{eq-eqb}
 use Rattle.rules.specs.Operations.{check_file}
 use Rattle.file.proofs.Reading.{file_sized}

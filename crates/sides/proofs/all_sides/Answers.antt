@@ -1,12 +1,9 @@
 -- `all_sides` fills a place a core, in both arrays. Assumes nothing.
 use mathlib.Core.Path.{◌≡◌}
-use mathlib.Core.Bool.{true, false}
-use mathlib.Core.List.{map}
-use Prim.Native.Nat.{◌-◌, ◌≤◌}
 use borrow.Author.Rules.{rules}
 use native.Mathlib.Omega.{arith}
-use Rattle.sides.specs.Masks.{mask, on_side, side_masks}
-use Rattle.laws.specs.Idioms.{from, up_to, filled}
+use Rattle.sides.specs.Masks.{side_masks}
+use Rattle.laws.specs.Idioms.{from}
 use Rattle.laws.proofs.Places.{place_next}
 use Rattle.sides.proofs.all_sides.Goals as goal
 

@@ -3,11 +3,8 @@ use mathlib.Core.Path.{◌≡◌}
 use mathlib.Core.Bool.{true, false}
 use mathlib.Core.List.{map}
 use Prim.Native.Nat.{◌-◌, ◌≤◌}
-use borrow.Author.Rules.{rules}
-use native.Mathlib.Omega.{arith}
-use Rattle.sides.specs.Masks.{mask, on_side, side_masks}
-use Rattle.laws.specs.Idioms.{from, up_to, filled}
-use Rattle.laws.proofs.Places.{place_next}
+use Rattle.sides.specs.Masks.{mask, on_side}
+use Rattle.laws.specs.Idioms.{up_to, filled}
 use Rattle.sides.proofs.all_sides.Given as goal
 
 abbrev pub invariant-loop-p : goal.invariant-loop-p

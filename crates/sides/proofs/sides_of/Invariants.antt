@@ -1,12 +1,8 @@
 -- `sides_of` gathers the bits from the last core down. Assumes nothing.
 use mathlib.Core.Path.{◌≡◌}
-use mathlib.Core.Bool.{Bool, true, false}
-use Prim.Native.Nat.{ℕ, ◌+◌, ◌-◌, ◌*◌, ◌≤◌, ◌<◌}
-use borrow.Author.Rules.{rules}
-use native.Mathlib.Nat.{sub-zero}
-use native.Mathlib.Omega.{arith}
+use mathlib.Core.Bool.{true, false}
+use Prim.Native.Nat.{◌+◌, ◌-◌, ◌≤◌}
 use Rattle.sides.specs.Masks.{mask_from, on_side}
-use Rattle.sides.proofs.Masks.{mask_step, mask-room}
 use Rattle.sides.proofs.sides_of.Given as goal
 
 abbrev pub invariant-loop-q : goal.invariant-loop-q

@@ -1,10 +1,8 @@
 -- The place of a task, its higher tasks counted. Assumes nothing.
 use borrow.Author.Rules.{rules}
 use mathlib.Core.Path.{◌≡◌}
-use Prim.Native.Nat.{◌+◌, ◌≤◌, ◌-◌}
 use native.Mathlib.Omega.{arith}
-use lib.ListN.{length, get_or}
-use Rattle.standing.specs.OnCore.{places_on}
+use lib.ListN.{get_or}
 use Rattle.standing.proofs.PlacesOn.{places_none, count_next}
 use Rattle.standing.proofs.place.Goals as goal
 

@@ -1,14 +1,7 @@
 -- The starts as numbers, place by place. Assumes nothing.
-use borrow.Author.Rules.{rules}
-use mathlib.Core.Path.{◌≡◌}
 use Prim.Native.Nat.{◌≤◌, ◌-◌}
-use native.Mathlib.Omega.{arith}
-use lib.ListN.{length}
-use lib.Seq.{take_all}
 use Rattle.rules.specs.declared.Picos.{Picos}
-use Rattle.rules.specs.Units.{ps}
-use Rattle.laws.proofs.Runs.{unmapped}
-use Rattle.starts.proofs.Column.{Column, column-none, column-next}
+use Rattle.starts.proofs.Column.{Column}
 use Rattle.starts.proofs.numbers.Given as goal
 
 abbrev pub invariant-loop-i : goal.invariant-loop-i

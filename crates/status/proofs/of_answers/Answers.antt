@@ -1,10 +1,10 @@
 -- `of_answers` meets its contract. The invariant: the tasks from number k on decide. Assumes nothing.
 use mathlib.Core.Path.{◌≡◌, ◌∙◌, sym, ap}
 use mathlib.Core.Bool.{not}
-use Prim.Native.Nat.{◌+◌, ◌-◌, ◌≤◌}
+use Prim.Native.Nat.{◌+◌, ◌-◌}
 use native.Mathlib.Omega.{arith}
 use borrow.Author.Rules.{rules}
-use Rattle.laws.proofs.Every.{Rest, rest_all, rest-fails, rest-next, rest-done}
+use Rattle.laws.proofs.Every.{rest_all, rest-fails, rest-next, rest-done}
 use Rattle.status.specs.Status.{held, all_hold}
 use Rattle.status.proofs.of_answers.Goals as goal
 

@@ -1,11 +1,7 @@
 -- `of_answers` meets its contract. The invariant: the tasks from number k on decide. Assumes nothing.
-use mathlib.Core.Path.{◌≡◌, ◌∙◌, sym, ap}
-use mathlib.Core.Bool.{not}
 use Prim.Native.Nat.{◌+◌, ◌-◌, ◌≤◌}
-use native.Mathlib.Omega.{arith}
-use borrow.Author.Rules.{rules}
-use Rattle.laws.proofs.Every.{Rest, rest_all, rest-fails, rest-next, rest-done}
-use Rattle.status.specs.Status.{held, all_hold}
+use Rattle.laws.proofs.Every.{Rest}
+use Rattle.status.specs.Status.{held}
 use Rattle.status.proofs.of_answers.Given as goal
 
 abbrev pub invariant-loop-k : goal.invariant-loop-k

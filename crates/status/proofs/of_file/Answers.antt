@@ -2,7 +2,6 @@
 use mathlib.Core.Path.{◌≡◌, sym, ◌∙◌}
 use mathlib.Core.Bool.{true}
 use native.Mathlib.Omega.{arith}
-use borrow.Author.Rules.{rules}
 use Rattle.rules.specs.Chain.{is_accepted}
 use Rattle.rules.specs.Operations.{check_to_judge}
 use Rattle.facts.proofs.Chain.{passes, refuses}

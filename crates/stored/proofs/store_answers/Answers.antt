@@ -1,10 +1,10 @@
 -- `store_answers` meets its contract. The invariant: each output has room, and the first i answers are in it. Assumes nothing.
 use mathlib.Core.Path.{refl, sym, ◌∙◌}
-use Prim.Native.Nat.{◌-◌, ◌≤◌}
+use Prim.Native.Nat.{◌≤◌}
 use native.Mathlib.Omega.{arith}
 use borrow.Author.Rules.{rules}
 use lib.ListN.{length}
-use Rattle.stored.proofs.Laid.{Storing, too_short_lem, lengths, fits, storing_next, storing_done}
+use Rattle.stored.proofs.Laid.{too_short_lem, fits, storing_next, storing_done}
 use Rattle.stored.proofs.store_answers.Goals.{At-loop-i}
 use Rattle.stored.proofs.store_answers.Goals as goal
 

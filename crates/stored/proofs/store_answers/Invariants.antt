@@ -1,10 +1,6 @@
 -- `store_answers` meets its contract. The invariant: each output has room, and the first i answers are in it. Assumes nothing.
-use mathlib.Core.Path.{refl, sym, ◌∙◌}
-use Prim.Native.Nat.{◌-◌, ◌≤◌}
-use native.Mathlib.Omega.{arith}
-use borrow.Author.Rules.{rules}
-use lib.ListN.{length}
-use Rattle.stored.proofs.Laid.{Storing, too_short_lem, lengths, fits, storing_next, storing_done}
+use Prim.Native.Nat.{◌-◌}
+use Rattle.stored.proofs.Laid.{Storing}
 use Rattle.stored.proofs.store_answers.Given as goal
 
 abbrev pub invariant-loop-i : goal.invariant-loop-i

@@ -1,11 +1,11 @@
 -- Both sums in one pass: after i bytes they are the sums of the first i. Assumes nothing.
-use Prim.Native.Nat.{◌+◌, ◌*◌, ◌-◌, ◌≤◌}
+use Prim.Native.Nat.{◌+◌}
 use mathlib.Core.Path.{◌≡◌, refl}
 use native.Mathlib.Omega.{arith}
 use borrow.Author.Rules.{rules}
-use lib.ListN.{length, take}
+use lib.ListN.{length}
 use lib.Seq.{take-length}
-use Rattle.rules.specs.File.{sum_of, running_sum}
+use Rattle.rules.specs.File.{running_sum}
 use Rattle.lanes.proofs.Running.{sum-next, running-next}
 use Rattle.sums.proofs.byte_sums.Goals as goal
 

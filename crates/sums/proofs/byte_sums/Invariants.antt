@@ -1,12 +1,8 @@
 -- Both sums in one pass: after i bytes they are the sums of the first i. Assumes nothing.
-use Prim.Native.Nat.{◌+◌, ◌*◌, ◌-◌, ◌≤◌}
-use mathlib.Core.Path.{◌≡◌, refl}
-use native.Mathlib.Omega.{arith}
-use borrow.Author.Rules.{rules}
+use Prim.Native.Nat.{◌*◌, ◌-◌, ◌≤◌}
+use mathlib.Core.Path.{◌≡◌}
 use lib.ListN.{length, take}
-use lib.Seq.{take-length}
 use Rattle.rules.specs.File.{sum_of, running_sum}
-use Rattle.lanes.proofs.Running.{sum-next, running-next}
 use Rattle.sums.proofs.byte_sums.Given as goal
 
 abbrev pub invariant-loop-at : goal.invariant-loop-at

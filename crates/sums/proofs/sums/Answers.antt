@@ -1,13 +1,11 @@
 -- Blocks of words, then what is left: the sums of the bytes before, joined with those of the bytes after them. Assumes nothing.
-use Prim.Native.Nat.{ℕ, ◌+◌, ◌*◌, ◌-◌, ◌<◌, ◌≤◌}
-use mathlib.Core.Path.{◌≡◌, ◌∙◌}
+use Prim.Native.Nat.{ℕ, ◌+◌, ◌*◌, ◌-◌, ◌<◌}
+use mathlib.Core.Path.{◌∙◌}
 use native.Mathlib.Omega.{arith}
 use borrow.Author.Rules.{rules}
-use native.Mathlib.Nat.{add-sub_cancel_left}
-use lib.ListN.{length, get_or, take}
+use lib.ListN.{length, get_or}
 use lib.Seq.{take-length}
 use Rattle.rules.specs.File.{running_sum}
-use Rattle.lanes.specs.Sums.{sums_of}
 use Rattle.laws.proofs.Parts.{part_length}
 use Rattle.lanes.proofs.Running.{part-joined, part-fits}
 use Rattle.sums.proofs.sums.Goals.{At-loop-at}
@@ -20,8 +18,6 @@ pub loop-at-init : goal.loop-at-init
 unfolding running_sum
 loop-at-init c = search rules
 
-
-
 pub loop-at-preserved : goal.loop-at-preserved
 loop-at-preserved c =
     let at = c.loop-at.at in
@@ -32,7 +28,6 @@ pub byte_sums-rest-requires : goal.byte_sums-rest-requires
 byte_sums-rest-requires c =
     let s = c.args.s.now in
     rw (part_length s c.loop-at.at (length s - c.loop-at.at) (omega arith)) (omega arith)
-
 
 pub returns : goal.returns
 returns c =

@@ -1,10 +1,9 @@
 -- T, C and H of the tasks, in an order of their places. Assumes nothing.
 use borrow.Author.Rules.{rules}
 use mathlib.Core.Path.{◌≡◌, refl}
-use Prim.Native.Nat.{◌≤◌, ◌<◌, ◌-◌}
+use Prim.Native.Nat.{◌<◌}
 use native.Mathlib.Omega.{arith}
-use lib.ListN.{length, length-set, get_or}
-use Rattle.groups.specs.Columns.{Columns}
+use lib.ListN.{length-set, get_or}
 use Rattle.groups.proofs.Filling.{columns-none, columns-next}
 use Rattle.table_columns.proofs.columns.Goals.{After-at-1}
 use Rattle.table_columns.proofs.columns.Goals as goal

@@ -1,11 +1,8 @@
 -- T, C and H of the tasks, in an order of their places. Assumes nothing.
-use borrow.Author.Rules.{rules}
-use mathlib.Core.Path.{◌≡◌, refl}
-use Prim.Native.Nat.{◌≤◌, ◌<◌, ◌-◌}
-use native.Mathlib.Omega.{arith}
-use lib.ListN.{length, length-set, get_or}
+use mathlib.Core.Path.{◌≡◌}
+use Prim.Native.Nat.{◌≤◌, ◌-◌}
+use lib.ListN.{length}
 use Rattle.groups.specs.Columns.{Columns}
-use Rattle.groups.proofs.Filling.{columns-none, columns-next}
 use Rattle.table_columns.proofs.columns.Given as goal
 
 abbrev pub invariant-loop-k : goal.invariant-loop-k

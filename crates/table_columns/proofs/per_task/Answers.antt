@@ -1,10 +1,8 @@
 -- Of each task its core and its latest allowed response. Assumes nothing.
 use borrow.Author.Rules.{rules}
 use mathlib.Core.Path.{◌≡◌, refl}
-use Prim.Native.Nat.{◌≤◌, ◌-◌}
 use native.Mathlib.Omega.{arith}
-use lib.ListN.{length, length-set}
-use Rattle.groups.specs.Columns.{PerTask}
+use lib.ListN.{length-set}
 use Rattle.groups.proofs.Filling.{per_task-none, per_task-next}
 use Rattle.table_columns.proofs.per_task.Goals as goal
 

@@ -1,11 +1,8 @@
 -- Of each task its core and its latest allowed response. Assumes nothing.
-use borrow.Author.Rules.{rules}
-use mathlib.Core.Path.{◌≡◌, refl}
+use mathlib.Core.Path.{◌≡◌}
 use Prim.Native.Nat.{◌≤◌, ◌-◌}
-use native.Mathlib.Omega.{arith}
-use lib.ListN.{length, length-set}
+use lib.ListN.{length}
 use Rattle.groups.specs.Columns.{PerTask}
-use Rattle.groups.proofs.Filling.{per_task-none, per_task-next}
 use Rattle.table_columns.proofs.per_task.Given as goal
 
 abbrev pub invariant-loop-i : goal.invariant-loop-i

@@ -1,7 +1,6 @@
 -- One walk over the tasks. Assumes nothing.
 use Prim.Native.Nat.{ℕ, ◌+◌, ◌-◌, ◌≤◌}
 use mathlib.Core.Path.{◌≡◌, sym, ◌∙◌}
-use mathlib.Core.Logic.{⊎_elim}
 use borrow.Author.Rules.{rules}
 use native.Mathlib.Omega.{arith}
 use lib.ListN.{length, get_or, get_or-eq_default}
@@ -10,7 +9,7 @@ use Rattle.rules.specs.declared.Task.{Task}
 use Rattle.rules.specs.declared.Table.{Table}
 use Rattle.rules.specs.Tasks.{no_task, task_of}
 use Rattle.rules.specs.Refusals.{check_tasks}
-use Rattle.tasks.proofs.Seen.{SeenAll, seen_none, seen_task, seen_all}
+use Rattle.tasks.proofs.Seen.{seen_none, seen_task, seen_all}
 use Rattle.tasks.proofs.check.Goals.{After-noted-seen, then-i-lt32, else-i-lt32}
 use Rattle.tasks.proofs.check.Goals as goal
 
@@ -23,8 +22,6 @@ beyond t i h e = here t i (e ∙ sym (get_or-eq_default t.task no_task {n = i} h
 
 table-long : (c : After-noted-seen) → length c.args.t.task ≡ 32
 table-long c = search (rules, unmapped)
-
-
 
 pub returns : goal.returns
 unfolding check_tasks

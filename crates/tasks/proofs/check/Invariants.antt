@@ -1,16 +1,7 @@
 -- One walk over the tasks. Assumes nothing.
-use Prim.Native.Nat.{ℕ, ◌+◌, ◌-◌, ◌≤◌}
-use mathlib.Core.Path.{◌≡◌, sym, ◌∙◌}
-use mathlib.Core.Logic.{⊎_elim}
-use borrow.Author.Rules.{rules}
-use native.Mathlib.Omega.{arith}
-use lib.ListN.{length, get_or, get_or-eq_default}
-use Rattle.laws.proofs.Runs.{unmapped}
-use Rattle.rules.specs.declared.Task.{Task}
-use Rattle.rules.specs.declared.Table.{Table}
-use Rattle.rules.specs.Tasks.{no_task, task_of}
-use Rattle.rules.specs.Refusals.{check_tasks}
-use Rattle.tasks.proofs.Seen.{SeenAll, seen_none, seen_task, seen_all}
+use Prim.Native.Nat.{◌-◌}
+use Rattle.rules.specs.Tasks.{task_of}
+use Rattle.tasks.proofs.Seen.{SeenAll}
 use Rattle.tasks.proofs.check.Given as goal
 
 abbrev pub invariant-loop-i : goal.invariant-loop-i

@@ -1,5 +1,4 @@
 -- What has been seen, and one task more. Assumes nothing.
-use borrow.Author.Rules.{rules}
 use Rattle.rules.specs.Refusals.{core_fault, request_fault}
 use Rattle.tasks.specs.Faults.{with_task}
 use Rattle.tasks.proofs.noted.Goals as goal

@@ -1,6 +1,5 @@
 -- T, D or C is outside its limits. Assumes nothing.
 use mathlib.Core.Path.{sym, ◌∙◌}
-use borrow.Author.Rules.{rules}
 use borrow.Author.Tests.{not-true, not-false}
 use Rattle.laws.specs.Idioms.{within}
 use Rattle.rules.specs.Tasks.{T, D}

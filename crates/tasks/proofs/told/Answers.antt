@@ -1,6 +1,5 @@
 -- 9, then 10, then 11. Assumes nothing.
 use mathlib.Core.Path.{◌∙◌}
-use borrow.Author.Rules.{rules}
 use borrow.Author.Tests.{eq-eqb, ne_eqb}
 use Rattle.tasks.specs.Faults.{told_by}
 use Rattle.tasks.proofs.told.Goals as goal

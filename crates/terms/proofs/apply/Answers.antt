@@ -5,8 +5,6 @@ use Rattle.terms.specs.Terms.{job_of}
 use Rattle.terms.proofs.Cut.{by_request, by_job}
 use Rattle.terms.proofs.apply.Goals as goal
 
-
-
 pub overflow_add-exec : goal.overflow_add-exec
 overflow_add-exec c = omega arith
 

@@ -1,6 +1,5 @@
 -- The product, cut off at the largest u64: by the numbers' size, or by a division test. Assumes nothing.
 use borrow.Author.Rules.{rules}
-use borrow.Author.Tests.{ltb-true}
 use Prim.Native.Nat.{◌*◌, ◌≤◌}
 use native.Mathlib.Omega.{arith}
 use native.Mathlib.Nat.{mul-zero, mul-le-mul, le-div_iff_mul-le, div-lt_iff_lt-mul}

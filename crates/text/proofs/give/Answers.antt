@@ -1,6 +1,5 @@
 -- `give` meets its contract. Assumes nothing.
 use native.Mathlib.Omega.{arith}
-use borrow.Author.Rules.{rules}
 use Rattle.text.proofs.Put.{given-none, given-whole}
 use Rattle.text.proofs.give.Goals as goal
 

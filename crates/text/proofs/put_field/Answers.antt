@@ -1,6 +1,5 @@
 -- `put_field` meets its contract: a number, and one byte more. Assumes nothing.
 use native.Mathlib.Omega.{arith}
-use borrow.Author.Rules.{rules}
 use Rattle.text.proofs.Put.{◌then◌, stored}
 use Rattle.text.proofs.put_field.Goals as goal
 

@@ -1,6 +1,5 @@
 -- `put_number` meets its contract: the part of the twenty places that holds the digits is put. Assumes nothing.
 use native.Mathlib.Omega.{arith}
-use borrow.Author.Rules.{rules}
 use Rattle.digits.proofs.Decimal.{spelled-part, spelled-short}
 use Rattle.text.proofs.put_number.Goals as goal
 

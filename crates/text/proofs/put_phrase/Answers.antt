@@ -1,6 +1,5 @@
 -- `put_phrase` meets its contract: two texts one after the other. Assumes nothing.
 use native.Mathlib.Omega.{arith}
-use borrow.Author.Rules.{rules}
 use Rattle.text.proofs.Put.{◌then◌}
 use Rattle.text.proofs.put_phrase.Goals as goal
 

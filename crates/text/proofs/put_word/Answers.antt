@@ -1,11 +1,9 @@
 -- `put_word` meets its contract. The invariant: what is left of the word, stored from here on, gives the whole word stored. Assumes nothing.
-use mathlib.Core.Path.{◌≡◌, ◌∙◌, sym}
-use Prim.Native.Nat.{◌+◌, ◌-◌, ◌≤◌}
+use mathlib.Core.Path.{◌∙◌, sym}
 use native.Mathlib.Nat.{add-zero}
 use native.Mathlib.Omega.{arith}
 use borrow.Author.Rules.{rules}
-use lib.ListN.{length, drop, length-set}
-use lib.Seq.{sets}
+use lib.ListN.{length-set}
 use Rattle.text.proofs.Put.{store_next, store_done}
 use Rattle.text.proofs.put_word.Goals as goal
 

@@ -4,7 +4,7 @@ use lib.ListN.{get_or}
 use mir.Syntax.{w16}
 use mir.Val.{Fits}
 use borrow.Author.Rules.{rules}
-use borrow.Author.Tests.{eq-eqb, ne_eqb}
+use borrow.Author.Tests.{ne_eqb}
 use Rattle.rules.specs.Bus.{slot_in}
 use Rattle.rules.specs.Refusals.{bus_fault}
 use Rattle.timing.proofs.Bus.{none_above}

@@ -1,5 +1,4 @@
 -- 6 and 7 in their order. Assumes nothing.
-use borrow.Author.Rules.{rules}
 use Rattle.rules.specs.Refusals.{check_timing}
 use Rattle.facts.proofs.Chain.{stops, goes_on}
 use Rattle.timing.proofs.check.Goals as goal

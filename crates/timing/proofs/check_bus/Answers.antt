@@ -1,10 +1,8 @@
 -- The walk over a bus's row gives the first figure at fault. Assumes nothing.
-use Prim.Native.Nat.{◌-◌}
 use mathlib.Core.Path.{sym, ◌∙◌}
 use borrow.Author.Rules.{rules}
-use native.Mathlib.Omega.{arith}
 use Rattle.rules.specs.Refusals.{bus_fault, check_bus}
-use Rattle.facts.proofs.First.{Left, left-all, left-hit, left-next, left-none}
+use Rattle.facts.proofs.First.{left-all, left-hit, left-next, left-none}
 use Rattle.timing.proofs.check_bus.Goals as goal
 
 pub returns-then-bus_fault : goal.returns-then-bus_fault

@@ -1,10 +1,7 @@
 -- The walk over a bus's row gives the first figure at fault. Assumes nothing.
 use Prim.Native.Nat.{◌-◌}
-use mathlib.Core.Path.{sym, ◌∙◌}
-use borrow.Author.Rules.{rules}
-use native.Mathlib.Omega.{arith}
-use Rattle.rules.specs.Refusals.{bus_fault, check_bus}
-use Rattle.facts.proofs.First.{Left, left-all, left-hit, left-next, left-none}
+use Rattle.rules.specs.Refusals.{bus_fault}
+use Rattle.facts.proofs.First.{Left}
 use Rattle.timing.proofs.check_bus.Given as goal
 
 abbrev pub invariant-loop-i : goal.invariant-loop-i

@@ -1,10 +1,8 @@
 -- The first relation that is broken. Assumes nothing.
-use Prim.Native.Nat.{◌-◌}
 use mathlib.Core.Path.{sym, ◌∙◌}
-use borrow.Author.Rules.{rules}
 use native.Mathlib.Omega.{arith}
 use Rattle.rules.specs.Refusals.{relation_fault}
-use Rattle.facts.proofs.First.{Left, left-all, left-hit, left-next, left-none}
+use Rattle.facts.proofs.First.{left-all, left-hit, left-next, left-none}
 use Rattle.timing.proofs.check_relations.Goals as goal
 
 pub returns-then-relation_fault : goal.returns-then-relation_fault

@@ -1,10 +1,7 @@
 -- The first relation that is broken. Assumes nothing.
 use Prim.Native.Nat.{◌-◌}
-use mathlib.Core.Path.{sym, ◌∙◌}
-use borrow.Author.Rules.{rules}
-use native.Mathlib.Omega.{arith}
 use Rattle.rules.specs.Refusals.{relation_fault}
-use Rattle.facts.proofs.First.{Left, left-all, left-hit, left-next, left-none}
+use Rattle.facts.proofs.First.{Left}
 use Rattle.timing.proofs.check_relations.Given as goal
 
 abbrev pub invariant-loop-i : goal.invariant-loop-i

@@ -1,6 +1,5 @@
 -- The comparisons are the relations, in their order. Assumes nothing.
 use native.Mathlib.Omega.{arith}
-use borrow.Author.Rules.{rules}
 use Rattle.timing.proofs.Relations.{relation_1, relation_2, relation_3, relation_4, relation_5, fifth}
 use Rattle.timing.proofs.relation_fault.Goals as goal
 

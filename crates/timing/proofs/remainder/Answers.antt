@@ -1,6 +1,5 @@
 -- The remainder by 0 is the number itself. Assumes nothing.
 use native.Mathlib.Nat.{mod-zero}
-use borrow.Author.Rules.{rules}
 use Rattle.timing.proofs.remainder.Goals as goal
 
 pub returns-then-b-eq0 : goal.returns-then-b-eq0

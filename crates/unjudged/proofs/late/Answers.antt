@@ -1,9 +1,7 @@
 -- The first late start. Assumes nothing.
 use borrow.Author.Rules.{rules}
 use mathlib.Core.Path.{◌∙◌}
-use Prim.Native.Nat.{◌≤◌, ◌-◌}
-use native.Mathlib.Omega.{arith}
-use Rattle.facts.proofs.First.{Left, left-all, left-hit, left-next, left-none}
+use Rattle.facts.proofs.First.{left-all, left-hit, left-next, left-none}
 use Rattle.unjudged.specs.Unjudged.{first_after}
 use Rattle.unjudged.proofs.OnTime.{after, after_true, after_false}
 use Rattle.unjudged.proofs.late.Goals as goal

@@ -1,11 +1,7 @@
 -- The first late start. Assumes nothing.
-use borrow.Author.Rules.{rules}
-use mathlib.Core.Path.{◌∙◌}
 use Prim.Native.Nat.{◌≤◌, ◌-◌}
-use native.Mathlib.Omega.{arith}
-use Rattle.facts.proofs.First.{Left, left-all, left-hit, left-next, left-none}
-use Rattle.unjudged.specs.Unjudged.{first_after}
-use Rattle.unjudged.proofs.OnTime.{after, after_true, after_false}
+use Rattle.facts.proofs.First.{Left}
+use Rattle.unjudged.proofs.OnTime.{after}
 use Rattle.unjudged.proofs.late.Given as goal
 
 abbrev pub invariant-loop-i : goal.invariant-loop-i

@@ -1,5 +1,4 @@
 -- No answer. Assumes nothing.
-use borrow.Author.Rules.{rules}
 use Rattle.unjudged.proofs.no_answers.Goals as goal
 
 pub returns : goal.returns

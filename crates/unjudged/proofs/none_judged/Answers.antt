@@ -1,5 +1,4 @@
 -- A refused judgement of all. Assumes nothing.
-use borrow.Author.Rules.{rules}
 use Rattle.unjudged.specs.Unjudged.{none_judged}
 use Rattle.unjudged.proofs.none_judged.Goals as goal
 

@@ -1,5 +1,4 @@
 -- A count where nothing is refused. Assumes nothing.
-use borrow.Author.Rules.{rules}
 use borrow.Author.Tests.{eq-eqb, ne_eqb}
 use Rattle.unjudged.proofs.unless_refused.Goals as goal
 

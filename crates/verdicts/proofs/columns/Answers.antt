@@ -1,12 +1,11 @@
 -- T, C and H of the tasks, in an order of their places. Assumes nothing.
 use borrow.Author.Rules.{rules}
 use mathlib.Core.Path.{◌≡◌}
-use Prim.Native.Nat.{◌≤◌, ◌<◌, ◌-◌}
+use Prim.Native.Nat.{◌<◌}
 use native.Mathlib.Omega.{arith}
-use lib.ListN.{length, length-set, get_or}
+use lib.ListN.{length-set, get_or}
 use Rattle.rules.specs.File.{tasks_in, decode}
 use Rattle.file.proofs.Reading.{file_sized, file_counts}
-use Rattle.groups.specs.Columns.{Columns}
 use Rattle.groups.proofs.Filling.{columns-none, columns-next}
 use Rattle.verdicts.proofs.InFile.{tasks_are, task_in_place}
 use Rattle.verdicts.proofs.columns.Goals.{In-loop-k}

@@ -1,14 +1,9 @@
 -- T, C and H of the tasks, in an order of their places. Assumes nothing.
-use borrow.Author.Rules.{rules}
 use mathlib.Core.Path.{◌≡◌}
-use Prim.Native.Nat.{◌≤◌, ◌<◌, ◌-◌}
-use native.Mathlib.Omega.{arith}
-use lib.ListN.{length, length-set, get_or}
-use Rattle.rules.specs.File.{tasks_in, decode}
-use Rattle.file.proofs.Reading.{file_sized, file_counts}
+use Prim.Native.Nat.{◌≤◌, ◌-◌}
+use lib.ListN.{length}
+use Rattle.rules.specs.File.{decode}
 use Rattle.groups.specs.Columns.{Columns}
-use Rattle.groups.proofs.Filling.{columns-none, columns-next}
-use Rattle.verdicts.proofs.InFile.{tasks_are, task_in_place}
 use Rattle.verdicts.proofs.columns.Given as goal
 
 abbrev pub invariant-loop-k : goal.invariant-loop-k

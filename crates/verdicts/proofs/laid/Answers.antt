@@ -1,8 +1,6 @@
 -- All that judging needs of an accepted file. Assumes nothing.
-use borrow.Author.Rules.{rules}
 use Rattle.groups.proofs.Joining.{low_zeros}
 use Rattle.file.proofs.Reading.{file_sound}
-use Rattle.verdicts.proofs.laid.Given as given
 use Rattle.verdicts.proofs.laid.Goals as goal
 
 pub grouped-requires : goal.grouped-requires

@@ -1,12 +1,11 @@
 -- Of each task its core and its latest allowed response. Assumes nothing.
 use borrow.Author.Rules.{rules}
 use mathlib.Core.Path.{◌≡◌, ◌∙◌}
-use Prim.Native.Nat.{◌≤◌, ◌<◌, ◌-◌}
+use Prim.Native.Nat.{◌<◌}
 use native.Mathlib.Omega.{arith}
-use lib.ListN.{length, length-set}
+use lib.ListN.{length-set}
 use Rattle.rules.specs.File.{tasks_in, decode}
 use Rattle.file.proofs.Reading.{file_sized, file_counts}
-use Rattle.groups.specs.Columns.{PerTask}
 use Rattle.groups.proofs.Filling.{per_task-none, per_task-next}
 use Rattle.verdicts.proofs.InFile.{tasks_are, task_in_place}
 use Rattle.verdicts.proofs.per_task.Goals.{In-loop-i}

@@ -1,14 +1,9 @@
 -- Of each task its core and its latest allowed response. Assumes nothing.
-use borrow.Author.Rules.{rules}
-use mathlib.Core.Path.{◌≡◌, ◌∙◌}
-use Prim.Native.Nat.{◌≤◌, ◌<◌, ◌-◌}
-use native.Mathlib.Omega.{arith}
-use lib.ListN.{length, length-set}
-use Rattle.rules.specs.File.{tasks_in, decode}
-use Rattle.file.proofs.Reading.{file_sized, file_counts}
+use mathlib.Core.Path.{◌≡◌}
+use Prim.Native.Nat.{◌≤◌, ◌-◌}
+use lib.ListN.{length}
+use Rattle.rules.specs.File.{decode}
 use Rattle.groups.specs.Columns.{PerTask}
-use Rattle.groups.proofs.Filling.{per_task-none, per_task-next}
-use Rattle.verdicts.proofs.InFile.{tasks_are, task_in_place}
 use Rattle.verdicts.proofs.per_task.Given as goal
 
 abbrev pub invariant-loop-i : goal.invariant-loop-i

@@ -1,6 +1,5 @@
 -- `request_delay` adds the row's part. Assumes nothing.
 use Prim.Native.Nat.{◌+◌, ◌*◌, ◌^◌, ◌≤◌}
-use borrow.Author.Rules.{rules}
 use native.Mathlib.Omega.{arith}
 use Rattle.delays.specs.declared.Figures.{Figures}
 use Rattle.weights.proofs.Weighed.{RD-none, RD-some, row-high}
@@ -8,7 +7,6 @@ use Rattle.weights.proofs.request_delay.Goals.{After-count-others}
 use Rattle.weights.proofs.request_delay.Goals as goal
 
 module _ (c : After-count-others) where
-
   abbrev f : Figures
   f = c.args.f
 

@@ -13,7 +13,6 @@ crossed c n few = omega (arith, charge_high c.requires.figures_bounded n 0 few (
 
 -- where a core is near
 module _ (c : After-bit) where
-
   abbrev crossings : ℕ
   crossings = c.bit-across.result + c.count.result
 
@@ -21,9 +20,12 @@ module _ (c : After-bit) where
   high = charge_high c.requires.figures_bounded crossings c.bit.result (omega arith) (omega arith)
 
 pub returns-then-near-ne0 : goal.returns-then-near-ne0
-returns-then-near-ne0 c = let a = c.args in record { upper_bound = high (goal.at.returns-then-near-ne0 c).After-bit; value = λ t highp highq s.
-          rw (c.bit-across.ensures.0, c.count.ensures.0, c.bit.ensures.0)
-          (weighed s a.q (omega arith) highp (omega arith) highq) }
+returns-then-near-ne0 c = let a = c.args in record {
+  upper_bound = high (goal.at.returns-then-near-ne0 c).After-bit;
+  value = λ t highp highq s.
+      rw (c.bit-across.ensures.0, c.count.ensures.0, c.bit.ensures.0)
+      (weighed s a.q (omega arith) highp (omega arith) highq);
+}
 
 pub returns : goal.returns
 returns c = let a = c.args in

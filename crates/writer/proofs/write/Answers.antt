@@ -17,7 +17,6 @@ use Rattle.writer.proofs.Writing.{file_small, encode-length, table-refused, no_r
 use Rattle.writer.proofs.write.Goals.{After-file_length-n}
 use Rattle.writer.proofs.write.Goals as goal
 
-
 -- 5 to 11 were passed
 passed : (c : After-file_length-n) → is_accepted (check_table c.args.t) ≡ true
 passed c = rw c.check-checked.ensures at (eq-eqb _ _ c.if-checked-ne0.false)
