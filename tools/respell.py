@@ -17,9 +17,12 @@ TOKEN = re.compile(r"[^\s(){}\[\],;.\"@λ\\`]+")
 DECL = re.compile(r"^(\s*)(?:(?:unfoldable|abbrev|pub|opaque)\s+)*(?:(data|record)\s+)?([^\s:(){}|;=]+)(?:\s+[({].*[)}])?\s+:(?:\s|$)")
 # symbols: they are spelled as in docs/RULES.md
 SYMBOLS = re.compile(r"^(?:[A-Z]|RD|JD|CL|WL|BL|Ncols|Ncap|t[A-Z]+)$")
-KEPT = set()
-# lemmas that port.py gave the name that a definition beside them gets here
-FIRST = {"crates/stored/proofs/": {"too_short": "too_short_lem"}}
+# what port.py took for a name of std's: a lemma that it gave the name that a definition beside it gets here, a definition, and a lemma that is named after a word of std
+FIRST = {
+    "crates/stored/proofs/": {"too_short": "too_short_lem"},
+    "crates/rounds/specs/": {"field_own": "ownAt"},
+    "/proofs/": {"getD-within": "get_or-within"},
+}
 
 
 def files(root, ends):
@@ -51,7 +54,7 @@ def declared(root):
 
 def snake(part):
     """One part of a name, without dashes."""
-    if SYMBOLS.match(part) or part in KEPT or part[:1].isupper():
+    if SYMBOLS.match(part) or part[:1].isupper():
         return part
     out = re.sub(r"(?<=[a-z0-9])(?=[A-Z])", "_", part)
     if out == part:
