@@ -1,5 +1,5 @@
 -- `front_of` meets its contract: the header's counts in the front of a slice are bytes, as the slice's own are. Assumes nothing.
-use mathlib.Core.List.{List, ◌∷◌}
+use mathlib.Core.List.{List, [], ◌∷◌}
 use Prim.Native.Nat.{ℕ, zero, suc, ◌<◌}
 use native.Mathlib.Omega.{arith}
 use lib.ListN.{length, take, get_or}
