@@ -60,8 +60,8 @@ fn write_status(rt: HostRuntime, digit: u8) -> io::Result<()> {
     to.write_all(&[digit])
 }
 
-// How the program ended, from 0 to 3 (a larger number is told as 3): one digit on descriptor 9, since a program has no exit status. Where that is not open
-// for writing nothing is told.
+// How the program ended, from 0 to 3 (a larger number is told as 3): one digit on descriptor 9, which `run` makes its exit status. Where that is not
+// open for writing nothing is told.
 pub fn tell(rt: HostRuntime, status: u8) {
     let digit = if status < 3 { b'0' + status } else { b'3' };
     if takes_status(rt) {

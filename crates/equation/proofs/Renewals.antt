@@ -22,8 +22,8 @@ module _ {t u : ℕ} (pos : 1 ≤ t) (later : t ≤ u) where
 
   pub renewals-same : {c : ℕ → ℕ} {cs : List (ℕ → ℕ)} → Each cs → renewals u cs ≤ renewals t cs → Memᴰ c cs → c t ≡ c u
   unfolding renewals
+  renewals-same {cs = []} each none m = elim m [ ]
   renewals-same {cs = d ∷ cs} each none (Memᴰ.head e) =
       rw e (omega (arith, (first each).rises t u later, (first each).some t pos, renewals_rise cs (rest each)))
   renewals-same {cs = d ∷ cs} each none (Memᴰ.tail m) =
       renewals-same (rest each) (omega (arith, (first each).rises t u later, (first each).some t pos)) m
-  renewals-same {c = c} {cs = []} each none x8 = elim x8 [ ]

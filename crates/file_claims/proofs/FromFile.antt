@@ -19,7 +19,7 @@ use Rattle.laws.proofs.Rows.{written_back}
 use Rattle.file_claims.proofs.Codes.{number_code, task_code}
 use Rattle.facts.proofs.Came.{Whole}
 use Rattle.file_claims.proofs.Whole.{before, before_and_trailer}
-use Rattle.file_claims.proofs.Places.{header, figure_bytes, set_bytes, task_bytes, body-parts, figure_ladder, set_ladder, record_ladder, sets-after-figures, records-after-sets, trailer-after_records, parts-joined}
+use Rattle.file_claims.proofs.Places.{header, figure_bytes, set_bytes, task_bytes, body-parts, figure_ladder, set_ladder, record_ladder, sets-after-figures, records-after-sets, trailer-after-records, parts-joined}
 
 module _ (s : List ℕ) where
   set_in : ℕ → ℕ
@@ -88,7 +88,7 @@ header-bytes (a ∷ b ∷ c ∷ d ∷ l) h = refl
 
 module _ {s : List ℕ} (b : Bytes s) (w : Whole s) where
   size : length s ≡ records_at (form_in s) (cores_in s) + record_size (form_in s) * tasks_in s + 12
-  size = rw (← trailer-after_records (form_in s) (cores_in s) (tasks_in s)) w.sized
+  size = rw (← trailer-after-records (form_in s) (cores_in s) (tasks_in s)) w.sized
 
   header_read : header (decode s) ≡ take 4 s
   unfolding header decode

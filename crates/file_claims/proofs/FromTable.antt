@@ -20,7 +20,7 @@ use Rattle.laws.proofs.Runs.{joined-take}
 use Rattle.file_claims.proofs.Codes.{number_code, task_code, record_bytes_lem, task_known}
 use Rattle.facts.proofs.Came.{Whole}
 use Rattle.file_claims.proofs.Whole.{trailer-length, trailed-whole}
-use Rattle.file_claims.proofs.Places.{header, figure_bytes, set_bytes, task_bytes, body-parts, encode-parts, figure_ladder, set_ladder, record_ladder, sets-after-figures, records-after-sets, trailer-after_records}
+use Rattle.file_claims.proofs.Places.{header, figure_bytes, set_bytes, task_bytes, body-parts, encode-parts, figure_ladder, set_ladder, record_ladder, sets-after-figures, records-after-sets, trailer-after-records}
 use Rattle.file_claims.proofs.Widths.{figure-fits, set-fits, task-fits}
 
 module _ {t : Table} (shape : Shape t) (passed : AcceptedTable t) where
@@ -54,7 +54,7 @@ module _ {t : Table} (shape : Shape t) (passed : AcceptedTable t) where
 
   encode-length : length (encode t) ≡ file_length t.fourth t.cores t.tasks
   unfolding encode
-  encode-length = rw (length-append (body t) (trailer (body t)), trailer-length (body t), body-length, trailer-after_records)
+  encode-length = rw (length-append (body t) (trailer (body t)), trailer-length (body t), body-length, trailer-after-records)
 
   -- ---- it is whole
 

@@ -57,9 +57,9 @@ record_ladder form cores = record {
   steps = λ k low. let e : k + 1 - 1 ≡ suc (k - 1) = omega arith in rw e (omega arith);
 }
 
-pub trailer-after_records : (form cores tasks : ℕ) → file_length form cores tasks ≡ records_at form cores + record_size form * tasks + 12
+pub trailer-after-records : (form cores tasks : ℕ) → file_length form cores tasks ≡ records_at form cores + record_size form * tasks + 12
 unfolding file_length
-trailer-after_records form cores tasks = refl
+trailer-after-records form cores tasks = refl
 
 -- the parts of a file behind its header, one after the other
 pub parts-joined : (form cores n : ℕ) (s l : List ℕ)

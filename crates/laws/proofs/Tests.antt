@@ -35,6 +35,6 @@ inside lowest highest x e =
     record { low = leb-true lowest x h.0; high = leb-true x highest h.1 }
 
 pub every_member : {A : Type 0} (p : A → Bool) {x : A} {l : List A} → every p l ≡ true → Memᴰ x l → p x ≡ true
+every_member p {l = []} e m = elim m [ ]
 every_member p {l = y ∷ ys} e (Memᴰ.head same) = rw same (and_both (p y) (every p ys) e).0
 every_member p {l = y ∷ ys} e (Memᴰ.tail m) = every_member p (and_both (p y) (every p ys) e).1 m
-every_member {A = A} p {l = []} e x6 = elim x6 [ ]

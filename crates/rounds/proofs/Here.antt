@@ -14,6 +14,10 @@ use Rattle.own.specs.Own.{own_of}
 use Rattle.climb.specs.Run.{Ready, climbed}
 use Rattle.rounds.specs.Lent.{Lent, place_at, cost_at, own_at, terms_at, climbed_at, Judgeable}
 
+-- columns that are the ghost value of a contract can be judged as that can
+pub lawful : {lent ghost-value : Lent} → lent ≡ ghost-value → Judgeable ghost-value → Judgeable lent
+lawful same j = rw same j
+
 module _ (l : Lent) (j : Judgeable l) (i : ℕ) (here : i < l.board.tasks) (d : CoreCosts) where
   abbrev p : ℕ
   p = get_or l.core i 0 - 1

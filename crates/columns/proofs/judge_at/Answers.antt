@@ -7,15 +7,12 @@ use Rattle.standing.specs.OnCore.{places_on}
 use Rattle.laws.specs.Idioms.{Within}
 use Rattle.releases.proofs.Quotients.{small-none}
 use Rattle.rounds.specs.Lent.{Lent, lent_of, place_at, Judgeable}
-use Rattle.rounds.proofs.Here.{fits_at, own_at_lem, here-ready, here-climbed}
+use Rattle.rounds.proofs.Here.{lawful, fits_at, own_at_lem, here-ready, here-climbed}
 use Rattle.columns.proofs.judge_at.Goals.{Start}
 use Rattle.columns.proofs.judge_at.Given as given
 use Rattle.columns.proofs.judge_at.Goals as goal
 
--- what the code may rely on, of what is lent
-lawful : {all lent : Lent} → all ≡ lent → Judgeable lent → Judgeable all
-lawful same j = rw same j
-
+-- the place and the start are as the contract asks of the ghost value
 within : {all lent : Lent} {i start : ℕ} → all ≡ lent → (i < lent.board.tasks) × (start ≤ get_or lent.latest i 0) → (i < all.board.tasks) × (start ≤ get_or all.latest i 0)
 within same h = rw same h
 

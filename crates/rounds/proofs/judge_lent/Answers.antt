@@ -9,67 +9,54 @@ use Rattle.rounds.specs.Lent.{Lent, lent_of, place_at, Judgeable}
 use Rattle.releases.proofs.Quotients.{small-none}
 use Rattle.unjudged.proofs.OnTime.{on_time}
 use Rattle.rounds.proofs.Nexts.{nexts_none, nexts_next, next_at}
-use Rattle.rounds.proofs.Here.{fits_at, own_at_lem, here-ready, here_gives}
+use Rattle.rounds.proofs.Here.{lawful, fits_at, own_at_lem, here-ready, here_gives}
 use Rattle.rounds.proofs.Judging.{Running, judging_starts, still-running, stops-high, goes_on_low, judging_done}
-use Rattle.rounds.proofs.judge_lent.Goals.{Start, In-loop-i, then-climbed, else-climbed}
+use Rattle.rounds.proofs.judge_lent.Goals.{In-loop-i, then-climbed, else-climbed}
 use Rattle.rounds.proofs.judge_lent.Given as given
 use Rattle.rounds.proofs.judge_lent.Goals as goal
 
--- what the code may rely on, of what is lent
-lawful : {all lent : Lent} → all ≡ lent → Judgeable lent → Judgeable all
-lawful same j = rw same j
-
--- what is lent
-module _ (g : given.Over) (c : Start g) where
+-- the task in the loop's place
+module _ (g : given.Over) (c : In-loop-i g) where
   abbrev lent : Lent
   lent = lent_of c.args.board c.args.core.now c.args.latest.now c.args.from.now c.args.spans.now c.args.costs.now c.args.asks.now
 
   judgeable : Judgeable lent
   judgeable = lawful c.requires.0 c.requires.1
 
--- the task in the loop's place
-module _ (g : given.Over) (c : In-loop-i g) where
-  abbrev here_lent : Lent
-  here_lent = lent_of c.args.board c.args.core.now c.args.latest.now c.args.from.now c.args.spans.now c.args.costs.now c.args.asks.now
-
-  here_judgeable : Judgeable here_lent
-  here_judgeable = lawful c.requires.0 c.requires.1
-
-  runs : Running here_lent c.args.starts.now c.loop-i.i c.loop-i.end c.loop-i.refusal c.loop-i.answers
-  runs = still-running here_lent c.args.starts.now c.loop-i-test.true c.loop-i.invariant.0
+  runs : Running lent c.args.starts.now c.loop-i.i c.loop-i.end c.loop-i.refusal c.loop-i.answers
+  runs = still-running lent c.args.starts.now c.loop-i-test.true c.loop-i.invariant.0
 
   here : c.loop-i.i < c.args.board.tasks
   here = omega (arith, c.loop-i-test.true, runs.end_is)
 
   few : c.loop-i.i < 32
-  few = omega (arith, here, here_judgeable.few)
+  few = omega (arith, here, judgeable.few)
 
   core_in : Within 1 8 (get_or c.args.core.now c.loop-i.i 0)
-  core_in = here_judgeable.core_in c.loop-i.i here
+  core_in = judgeable.core_in c.loop-i.i here
 
   abbrev place : ℕ
   place = get_or c.loop-i.next (get_or c.args.core.now c.loop-i.i 0 - 1) 0
 
-  stands : place ≡ place_at here_lent c.loop-i.i
+  stands : place ≡ place_at lent c.loop-i.i
   unfolding place_at
   stands = next_at c.args.core.now c.loop-i.i core_in c.loop-i.invariant.1
 
   place_low : place ≤ 32
-  place_low = omega (arith, stands, here_judgeable.place_low c.loop-i.i here)
+  place_low = omega (arith, stands, judgeable.place_low c.loop-i.i here)
 
 pub late-refusal-requires : goal.late-refusal-requires
-late-refusal-requires g c = (judgeable g (goal.at.late-refusal-requires g c).Start).few
+late-refusal-requires g c = (lawful c.requires.0 c.requires.1).few
 
 pub inverses-requires : goal.inverses-requires
-inverses-requires g c = (omega (arith, (judgeable g (goal.at.inverses-requires g c).Start).few), small-none 33)
+inverses-requires g c = (omega (arith, (lawful c.requires.0 c.requires.1).few), small-none 33)
 
 pub doubled-doubled-requires : goal.doubled-doubled-requires
-doubled-doubled-requires g c = (judgeable g (goal.at.doubled-doubled-requires g c).Start).lots
+doubled-doubled-requires g c = (lawful c.requires.0 c.requires.1).lots
 
 pub loop-i-init : goal.loop-i-init
 loop-i-init g c =
-    let s = (goal.at.loop-i-init g c).Start in
-    (judging_starts (lent g s) c.args.starts.now c.late-refusal.ensures c.unless_refused-end.ensures c.no_answers-answers.ensures, nexts_none _ (judgeable g s).long)
+    (judging_starts _ c.args.starts.now c.late-refusal.ensures c.unless_refused-end.ensures c.no_answers-answers.ensures, nexts_none _ (lawful c.requires.0 c.requires.1).long)
 
 pub own_of-own-requires : goal.own_of-own-requires
 own_of-own-requires g c =
@@ -77,7 +64,7 @@ own_of-own-requires g c =
     let doubled = c.doubled-doubled.ensures in
     record {
       p_bound = (omega (arith, (core_in g p).low, (core_in g p).high), few g p, place_low g p);
-      doubled = (doubled, fits_at (here_lent g p) (here_judgeable g p) c.loop-i.i (here g p) _ doubled);
+      doubled = (doubled, fits_at (lent g p) (judgeable g p) c.loop-i.i (here g p) _ doubled);
     }
 
 pub bounds-core-i : goal.bounds-core-i
@@ -104,8 +91,8 @@ bounds-starts-i g c = few g (goal.at.bounds-starts-i g c).In-loop-i
 pub settle-climbed-requires : goal.settle-climbed-requires
 settle-climbed-requires g c =
     let p = (goal.at.settle-climbed-requires g c).In-loop-i in
-    let all = here_lent g p in
-    let j = here_judgeable g p in
+    let all = lent g p in
+    let j = judgeable g p in
     let own = own_at_lem all j c.loop-i.i (here g p) _ (stands g p) c.own_of-own.ensures in
     let soon = (on_time c.args.latest.now c.args.starts.now c.args.board.tasks (runs g p).none-late).each c.loop-i.i (here g p) in
     record { small = c.inverses.ensures; ready = here-ready all c.loop-i.i own j (here g p) soon }
@@ -130,9 +117,9 @@ loop-i-smaller g c =
 pub loop-i-preserved : goal.loop-i-preserved
 loop-i-preserved g c =
     let p = (goal.at.loop-i-preserved g c).In-loop-i in
-    let all = here_lent g p in
+    let all = lent g p in
     let starts = c.args.starts.now in
-    let own = own_at_lem all (here_judgeable g p) c.loop-i.i (here g p) _ (stands g p) c.own_of-own.ensures in
+    let own = own_at_lem all (judgeable g p) c.loop-i.i (here g p) _ (stands g p) c.own_of-own.ensures in
     let gives = c.settle-climbed.ensures ∙ here_gives all c.loop-i.i own starts in
     let high = ap (λ (r : Climbed). r.high) gives in (
       elim c.if-climbed.branch [
