@@ -9,7 +9,6 @@ use Rattle.laws.specs.Idioms.{entry, filled, up_to}
 use Rattle.laws.proofs.Members.{member_up_to, map_same}
 use Rattle.rules.specs.declared.Table.{Table}
 use Rattle.rules.specs.declared.Answer.{Answer}
-use Rattle.rules.specs.declared.AllJudged as declared
 use Rattle.rules.specs.Judgement.{misses, judge}
 use Rattle.rules.specs.Chain.{is_accepted, first, ◌or_else◌}
 use Rattle.rules.specs.Refusals.{check_judged, late_start, high_start, check_all}

@@ -4,7 +4,7 @@ use mathlib.Core.Path.{◌≡◌, ◌∙◌, ap}
 use native.Mathlib.Omega.{arith}
 use lib.ListN.{length}
 use lib.Seq.{take_all}
-use Rattle.rules.specs.Judgement.{misses, bound_of}
+use Rattle.rules.specs.Judgement.{misses}
 use Rattle.rules.specs.Operations.{answers_from, fresh}
 use Rattle.starts.proofs.Column.{column-none, column-next}
 use Rattle.facts.proofs.AllStarts.{all-fresh, answers-long, fresh-starts, bounds_of_answers}

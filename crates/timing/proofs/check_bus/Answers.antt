@@ -1,7 +1,7 @@
 -- The walk over a bus's row gives the first figure at fault. Assumes nothing.
 use mathlib.Core.Path.{sym, ◌∙◌}
 use borrow.Author.Rules.{rules}
-use Rattle.rules.specs.Refusals.{bus_fault, check_bus}
+use Rattle.rules.specs.Refusals.{check_bus}
 use Rattle.facts.proofs.First.{left-all, left-hit, left-next, left-none}
 use Rattle.timing.proofs.check_bus.Goals as goal
 

@@ -1,7 +1,6 @@
 -- The first relation that is broken. Assumes nothing.
 use mathlib.Core.Path.{sym, ◌∙◌}
 use native.Mathlib.Omega.{arith}
-use Rattle.rules.specs.Refusals.{relation_fault}
 use Rattle.facts.proofs.First.{left-all, left-hit, left-next, left-none}
 use Rattle.timing.proofs.check_relations.Goals as goal
 
