@@ -7,7 +7,7 @@ use borrow.Author.Tests.{eqb-true, eq-eqb, ne_eqb}
 use Rattle.rules.specs.declared.Refusal.{Refusal}
 use Rattle.std.specs.Prelude.{Result, Ok, Err, IsErrAnd, ◌≤◌}
 use Rattle.std.proofs.lemmas.Result.{err_from_is_err_and}
-use Rattle.rules.specs.Chain.{accepted, refused, is_accepted, ◌or_else◌, given, granted}
+use Rattle.rules.specs.Chain.{accepted, refused, is_accepted, ◌or_else◌, given, granted, refusal_of}
 
 -- a refusal that a call gave: its number is 0, or is not
 pub passes : {r s : Refusal} → r ≡ s → r.number ≡ 0 → is_accepted s ≡ true
@@ -66,6 +66,15 @@ was-denied r x {d} e = go (is_accepted r) refl e
     go : (b : Bool) → is_accepted r ≡ b → cond b (Ok x) (Err r) ≡ Err d → (is_accepted r ≡ false) × (r ≡ d)
     go true p q = absurd cc
     go false p q = (p, cc)
+
+-- a number by which something is refused is that of the answer's refusal
+pub number_of : {A : Type 0} (r : Refusal) (x : A) → (refusal_of (granted r x)).number ≡ r.number
+unfolding granted, refusal_of
+number_of r x = go (is_accepted r) refl
+  where
+    go : (b : Bool) → is_accepted r ≡ b → (refusal_of (cond b (Ok x) (Err r))).number ≡ r.number
+    go true p = sym (eqb-true r.number 0 p)
+    go false p = refl
 
 -- a fault at a place
 module _ {A : Type 0} (n place : ℕ) {fault : Bool} (x : A) where

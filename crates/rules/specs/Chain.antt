@@ -33,3 +33,8 @@ first n fault m = first_from n fault 1 m
 -- what code answers: the refusal, or where nothing is refused what is asked for
 unfoldable pub granted : {A : Type 0} → Refusal → A → Result A Refusal
 granted r x = cond (is_accepted r) (Ok x) (Err r)
+
+-- and back: the refusal that an answer has, or none
+unfoldable pub refusal_of : {A : Type 0} → Result A Refusal → Refusal
+refusal_of (Ok x) = accepted
+refusal_of (Err r) = r
