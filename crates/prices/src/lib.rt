@@ -1,8 +1,10 @@
 // What the cores of a board pay, whatever its kind.
 #![tactic(auto)]
 
-ghost use Rattle.std.specs.Prelude.{◌≡◌};
+ghost use Rattle.std.specs.Prelude.{◌≡◌, ℕ, ◌≤◌, map};
+ghost use Rattle.laws.specs.Idioms.{Within, up_to, filled};
 ghost use Rattle.prices.specs.Costs.{no_costs};
+ghost use Rattle.prices.specs.declared.CoreCosts.{CoreCosts};
 
 use rules::Picos;
 
@@ -29,4 +31,18 @@ pub fn no_costs() -> CoreCosts
         request: free,
         weight: [free; 8],
     }
+}
+
+// Those of each core, counted from 1, by what gives the costs of one.
+pub fn each_core<F: Fn(usize) -> CoreCosts>(cores: usize, costs: F) -> [CoreCosts; 8]
+    requires few { cores ≤ 8 }
+    requires callable { (p : ℕ) → Within 1 cores p → F.pre costs p }
+    ensures { (of : ℕ → CoreCosts) → ((p : ℕ) (r : CoreCosts) → Within 1 cores p → F.post costs p r → r ≡ of p) → result ≡ filled 8 no_costs (map of (up_to cores)) }
+{
+    let none = no_costs();
+    let mut all = [none; 8];
+    for p in 0..cores {
+        all[p] = costs(p + 1);
+    }
+    all
 }
