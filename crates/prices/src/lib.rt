@@ -1,10 +1,9 @@
 // What the cores of a board pay, whatever its kind.
 #![tactic(auto)]
 
-ghost use Rattle.std.specs.Prelude.{◌≡◌, ℕ, ◌≤◌, map};
-ghost use Rattle.laws.specs.Idioms.{Within, up_to, filled};
-ghost use Rattle.prices.specs.Costs.{no_costs};
-ghost use Rattle.prices.specs.declared.CoreCosts.{CoreCosts};
+ghost use Rattle.std.specs.Prelude.{◌≡◌, ℕ, ◌≤◌};
+ghost use Rattle.laws.specs.Idioms.{Within};
+ghost use Rattle.prices.specs.Costs.{no_costs, EachBy};
 
 use rules::Picos;
 
@@ -37,7 +36,7 @@ pub fn no_costs() -> CoreCosts
 pub fn each_core<F: Fn(usize) -> CoreCosts>(cores: usize, costs: F) -> [CoreCosts; 8]
     requires few { cores ≤ 8 }
     requires callable { (p : ℕ) → Within 1 cores p → F.pre costs p }
-    ensures { (of : ℕ → CoreCosts) → ((p : ℕ) (r : CoreCosts) → Within 1 cores p → F.post costs p r → r ≡ of p) → result ≡ filled 8 no_costs (map of (up_to cores)) }
+    ensures { EachBy cores (F.post costs) result }
 {
     let none = no_costs();
     let mut all = [none; 8];
