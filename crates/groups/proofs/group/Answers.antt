@@ -11,5 +11,5 @@ pub loop-i-preserved : goal.loop-i-preserved
 loop-i-preserved c =
     let l = c.loop-i in
     let core = c.args.core.now in
-    let more = joined-next core c.args.q l.i (search rules) (search rules) l.invariant.1 (search rules) in
+    let more = joined-next core c.args.q l.i {k = c.from-at.result} (search rules) (search rules) l.invariant.1 (search rules) in
     (omega (arith, more.count, places_few core c.args.q (l.i + 1) c.args.n (search rules)), more)

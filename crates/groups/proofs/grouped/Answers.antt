@@ -6,10 +6,8 @@ use Rattle.groups.proofs.grouped.Goals as goal
 pub loop-q-init : goal.loop-q-init
 loop-q-init c = turn_none _ _ (search rules)
 
-pub group-m-requires : goal.group-m-requires
-group-m-requires c =
-    let so = c.loop-q.invariant in
-    record { n_bound = (c.requires.n_bound.0, omega (arith, c.requires.n_bound.0, turn_room c.args.core.now c.args.n so)); places_below = so.low }
+pub group-m-requires-clause-n_bound : goal.group-m-requires-clause-n_bound
+group-m-requires-clause-n_bound c = (search rules, omega (arith, turn_room c.args.core.now c.args.n c.loop-q.invariant))
 
 pub loop-q-preserved : goal.loop-q-preserved
 loop-q-preserved c = turn_next c.args.core.now c.args.n (search rules) c.loop-q.invariant c.group-m.ensures
