@@ -4,7 +4,7 @@
 ghost use Rattle.std.specs.Prelude.{◌≡◌, ◌*◌, ◌≤◌};
 ghost use Rattle.rules.specs.Delays.{run};
 
-use cycles::{CL, TWR, TWTR, figure, less, turn};
+use cycles::{CL, TWR, TWTR, figure, turn};
 use rules::Cycles;
 
 // A count of at most 65535/2 rounded up, times a sum of figures.
@@ -25,5 +25,5 @@ pub fn run(row: [u16; 15], m: u64) -> Cycles
     }
     let writes = times((m + 1) / 2, turn(row));
     let reads = times(m / 2, figure(row, CL));
-    Cycles(writes + reads + less(figure(row, TWR), figure(row, TWTR)))
+    Cycles(writes + reads + figure(row, TWR).saturating_sub(figure(row, TWTR)))
 }
