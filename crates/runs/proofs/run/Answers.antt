@@ -21,8 +21,6 @@ returns c =
       c.saturating_sub.ensures,
       c.figure-3.ensures.0,
       c.figure-2.ensures.0,
-      c.times-reads.ensures.0,
       c.figure.ensures.0,
-      c.times-writes.ensures.0,
       c.turn.ensures.0,
     ))
