@@ -63,10 +63,8 @@ fn figures(file: &[u8], at: usize, n: usize, into: &mut [u16])
     requires n_in_bounds_2 { at + 2 * n ≤ length file.now }
     ensures { into.new ≡ sets into.old 0 (figures_in file.now at n) }
 {
-    let mut i: usize = 0;
-    while i < n {
+    for i in 0..n {
         into[i] = lent_bytes::le16(file, at + 2 * i);
-        i += 1;
     }
 }
 
