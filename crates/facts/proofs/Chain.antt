@@ -69,7 +69,7 @@ was-denied r x {d} e = go (is_accepted r) refl e
 
 -- a number by which something is refused is that of the answer's refusal
 pub number_of : {A : Type 0} (r : Refusal) (x : A) → (refusal_of (granted r x)).number ≡ r.number
-unfolding granted, refusal_of
+unfolding granted refusal_of
 number_of r x = go (is_accepted r) refl
   where
     go : (b : Bool) → is_accepted r ≡ b → (refusal_of (cond b (Ok x) (Err r))).number ≡ r.number
