@@ -5,16 +5,14 @@ use native.Mathlib.Omega.{arith}
 use Rattle.rules.specs.Chain.{is_accepted}
 use Rattle.rules.specs.Refusals.{check_table}
 use Rattle.rules.specs.File.{decode}
-use Rattle.rules.specs.Operations.{taking}
-use Rattle.facts.proofs.Chain.{returned, denied-alike, was-allowed}
+use Rattle.facts.proofs.Chain.{returned, denied-alike, allowed, was-allowed}
 use Rattle.fields.proofs.Steps.{records-end}
 use Rattle.file.proofs.Reading.{whole-sized, taken, taken-counts}
 use Rattle.file.proofs.take.Goals.{In_ok-figures_refusal}
 use Rattle.file.proofs.take.Goals as goal
 
 pub returns-in_err-figures_refusal : goal.returns-in_err-figures_refusal
-unfolding taking
-returns-in_err-figures_refusal c = returned _ c.from_residual.ensures.1 ∙ denied-alike _ _ _ c.in_err-figures_refusal.ensures
+returns-in_err-figures_refusal c = returned _ c.from_residual.ensures.1 ∙ denied-alike _ _ _ c.in_err-figures_refusal.ensures ∙ sym (taken _)
 
 passed : (c : In_ok-figures_refusal) → is_accepted (check_table (decode c.args.file.now)) ≡ true
 passed c = (was-allowed _ _ (sym c.in_ok-figures_refusal.ensures)).0
@@ -33,4 +31,4 @@ table-requires c = record {
 
 pub returns : goal.returns
 unfolding decode
-returns c = rw c.table.ensures (taken _ (passed (goal.at.returns c).In_ok-figures_refusal))
+returns c = rw c.table.ensures (sym (allowed _ _ (passed (goal.at.returns c).In_ok-figures_refusal))) ∙ sym (taken _)
