@@ -32,20 +32,13 @@ fn relation_fault(row: [u16; 15], k: u8) -> bool
     requires { (1 ≤ k) × (k ≤ 5) }
     ensures { result ≡ relation_fault row k }
 {
-    if k == 1 {
-        return figure(row, cycles::TWR) < figure(row, cycles::TWTR);
+    match k {
+        1 => figure(row, cycles::TWR) < figure(row, cycles::TWTR),
+        2 => cycles::turn(row) < figure(row, cycles::CL),
+        3 => figure(row, cycles::CL) + figure(row, cycles::BL) / 2 + 2 <= figure(row, cycles::TRTP),
+        4 => figure(row, cycles::TRCD) + hits::hit(row).0 <= figure(row, cycles::TRAS),
+        _ => remainder(figure(row, cycles::NCOLS), figure(row, cycles::BL)) != 0,
     }
-    if k == 2 {
-        return cycles::turn(row) < figure(row, cycles::CL);
-    }
-    if k == 3 {
-        return figure(row, cycles::CL) + figure(row, cycles::BL) / 2 + 2
-            <= figure(row, cycles::TRTP);
-    }
-    if k == 4 {
-        return figure(row, cycles::TRCD) + hits::hit(row).0 <= figure(row, cycles::TRAS);
-    }
-    remainder(figure(row, cycles::NCOLS), figure(row, cycles::BL)) != 0
 }
 
 // Refusal 7 (RULES 9.3), with the first relation at fault.
