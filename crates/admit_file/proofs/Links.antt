@@ -4,7 +4,7 @@ use mathlib.Core.Bool.{true, false}
 use mathlib.Core.List.{List}
 use Prim.Native.Nat.{ℕ}
 use Rattle.rules.specs.declared.Table.{Table}
-use Rattle.rules.specs.declared.Read.{Read}
+use Rattle.rules.specs.Results.{Read}
 use Rattle.rules.specs.Kinds.{says_salvaged}
 use Rattle.rules.specs.Chain.{accepted, refused, is_accepted}
 use Rattle.rules.specs.File.{form_in, decode}

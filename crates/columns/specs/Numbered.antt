@@ -2,7 +2,7 @@
 use Rattle.std.specs.Prelude.{ℕ, cond}
 use Rattle.rules.specs.declared.Table.{Table}
 use Rattle.rules.specs.declared.Refusal.{Refusal}
-use Rattle.rules.specs.declared.Judged.{Judged}
+use Rattle.rules.specs.Results.{Judged}
 use Rattle.rules.specs.Judgement.{misses, judge}
 use Rattle.rules.specs.Refusals.{high_start}
 use Rattle.climb.specs.declared.Climbed.{Climbed}

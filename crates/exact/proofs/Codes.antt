@@ -8,7 +8,7 @@ use native.Mathlib.Omega.{arith}
 use lib.ListN.{length}
 use borrow.Author.Tests.{eqb-false, eq-eqb, ne_eqb}
 use Rattle.rules.specs.declared.Refusal.{Refusal}
-use Rattle.rules.specs.declared.Salvaged.{Salvaged}
+use Rattle.rules.specs.Results.{Salvaged}
 use Rattle.rules.specs.Chain.{◌or_else◌, is_accepted}
 use Rattle.rules.specs.Listing.{table_lines, refused_line, listing}
 use Rattle.rules.specs.File.{form_in, cores_in, tasks_in, decode}

@@ -4,12 +4,12 @@ use Rattle.rules.specs.declared.Table.{Table}
 use Rattle.rules.specs.declared.Picos.{Picos}
 use Rattle.rules.specs.declared.Refusal.{Refusal}
 use Rattle.rules.specs.declared.Answer.{Answer}
-use Rattle.rules.specs.declared.Read.{Read}
-use Rattle.rules.specs.declared.Written.{Written}
-use Rattle.rules.specs.declared.Salvaged.{Salvaged}
-use Rattle.rules.specs.declared.Judged.{Judged}
-use Rattle.rules.specs.declared.AllJudged.{AllJudged}
-use Rattle.rules.specs.declared.Rejudged.{Rejudged}
+use Rattle.rules.specs.Results.{Read}
+use Rattle.rules.specs.Results.{Written}
+use Rattle.rules.specs.Results.{Salvaged}
+use Rattle.rules.specs.Results.{Judged}
+use Rattle.rules.specs.Results.{AllJudged}
+use Rattle.rules.specs.Results.{Rejudged}
 use Rattle.rules.specs.Order as Order
 use Rattle.rules.specs.Timing as Timing
 use Rattle.rules.specs.Timing.{Row}

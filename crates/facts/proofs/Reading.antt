@@ -3,7 +3,7 @@ use mathlib.Core.Path.{◌≡◌, refl, ap, ◌∙◌}
 use mathlib.Core.Bool.{Bool, true, false, cond}
 use mathlib.Core.List.{List}
 use Prim.Native.Nat.{ℕ}
-use Rattle.rules.specs.declared.Read.{Read}
+use Rattle.rules.specs.Results.{Read}
 use Rattle.rules.specs.Chain.{is_accepted}
 use Rattle.rules.specs.Refusals.{check_table}
 use Rattle.rules.specs.File.{check_whole, decode}

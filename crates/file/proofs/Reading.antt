@@ -3,7 +3,7 @@ use mathlib.Core.Path.{◌≡◌, refl}
 use mathlib.Core.Bool.{true, false}
 use mathlib.Core.List.{List}
 use Prim.Native.Nat.{ℕ, ◌≤◌}
-use Rattle.rules.specs.declared.Read.{Read}
+use Rattle.rules.specs.Results.{Read}
 use Rattle.rules.specs.Chain.{is_accepted, ◌or_else◌}
 use Rattle.rules.specs.Refusals.{check_board, check_tasks, check_table}
 use Rattle.rules.specs.File.{cores_in, tasks_in, check_whole, decode}

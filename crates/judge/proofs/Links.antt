@@ -6,7 +6,7 @@ use Prim.Native.Nat.{ℕ, ◌≤◌}
 use borrow.Author.Tests.{ltb-false, not-false}
 use Rattle.rules.specs.declared.Table.{Table}
 use Rattle.rules.specs.declared.Refusal.{Refusal}
-use Rattle.rules.specs.declared.Judged.{Judged}
+use Rattle.rules.specs.Results.{Judged}
 use Rattle.rules.specs.Tasks.{latest, task_of}
 use Rattle.rules.specs.Judgement.{misses, judge}
 use Rattle.facts.specs.Sound.{Sound}

@@ -10,7 +10,7 @@ use Rattle.rules.specs.Chain.{◌or_else◌, is_accepted}
 use Rattle.rules.specs.File.{tasks_in, decode}
 use Rattle.rules.specs.declared.Refusal.{Refusal}
 use Rattle.rules.specs.declared.Answer.{Answer}
-use Rattle.rules.specs.declared.AllJudged.{AllJudged}
+use Rattle.rules.specs.Results.{AllJudged}
 use Rattle.rules.specs.Operations.{check_to_judge, answers_from, judge_all}
 use Rattle.facts.proofs.ToJudge.{judged_file}
 use Rattle.file.proofs.Reading.{file_counts}

@@ -1,8 +1,8 @@
 -- What points 2 and 3 say of the answers to all tasks: fresh, and of a newer table from the older one's bounds. Assumes nothing.
 use Rattle.std.specs.Prelude.{ℕ, ◌≤◌, ◌≡◌, true}
 use Rattle.rules.specs.declared.Table.{Table}
-use Rattle.rules.specs.declared.AllJudged.{AllJudged}
-use Rattle.rules.specs.declared.Rejudged.{Rejudged}
+use Rattle.rules.specs.Results.{AllJudged}
+use Rattle.rules.specs.Results.{Rejudged}
 use Rattle.rules.specs.Chain.{accepted}
 use Rattle.claims.specs.Point2.{task_answer, Right}
 use Rattle.claims.specs.Point3.{AnsweredFromOlder}

@@ -2,11 +2,11 @@
 #![tactic(auto)]
 
 ghost use Rattle.std.specs.Prelude.{◌≡◌};
-ghost use Rattle.rules.specs.Chain.{first};
+ghost use Rattle.rules.specs.Chain.{first, granted};
 ghost use Rattle.rules.specs.Refusals.{figure_fault};
 ghost use Rattle.ranges.specs.Ranges.{not_burst, out_of_range, AreRanges};
 
-use basics::refused;
+use chain::refuse_first;
 use rules::Refusal;
 
 // The lowest and highest of a figure.
@@ -66,16 +66,12 @@ fn all_limits() -> [Limits; 15]
 }
 
 // Refusal 6 (RULES 9.3), with the first figure at fault.
-pub fn check_ranges(row: [u16; 15]) -> Refusal
-    ensures { result ≡ first 6 (figure_fault row) 15 }
+pub fn check_ranges(row: [u16; 15]) -> Result<(), Refusal>
+    ensures { result ≡ granted (first 6 (figure_fault row) 15) tt }
 {
     let table = all_limits();
-    let mut i: usize = 0;
-    while i < 15 {
-        if is_outside(table[i], i + 1, row[i]) {
-            return refused(6, (i + 1) as u8);
-        }
-        i += 1;
-    }
-    refused(0, 0)
+    refuse_first(6, 15, |k| {
+        let i = k as usize - 1;
+        is_outside(table[i], i + 1, row[i])
+    })
 }

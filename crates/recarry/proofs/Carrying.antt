@@ -7,7 +7,7 @@ use lib.ListN.{take}
 use Rattle.rules.specs.declared.Refusal.{Refusal}
 use Rattle.rules.specs.declared.Answer.{Answer}
 use Rattle.rules.specs.declared.Verdict.{Verdict}
-use Rattle.rules.specs.declared.Read.{Read}
+use Rattle.rules.specs.Results.{Read}
 use Rattle.rules.specs.declared.Table.{Table}
 use Rattle.rules.specs.declared.Faulty.TheVariants.{Neither, Older, Newer}
 use Rattle.rules.specs.Judgement.{judge, misses, bound_of}

@@ -7,7 +7,7 @@ use Rattle.rules.specs.declared.Refusal.{Refusal}
 use Rattle.rules.specs.declared.Answer.{Answer}
 use Rattle.rules.specs.declared.Faulty.{Faulty}
 use Rattle.rules.specs.declared.Faulty.TheVariants.{Neither, Older, Newer}
-use Rattle.rules.specs.declared.Rejudged.{Rejudged}
+use Rattle.rules.specs.Results.{Rejudged}
 use Rattle.rules.specs.Chain.{is_accepted}
 use Rattle.rules.specs.Refusals.{check_judged}
 use Rattle.rules.specs.Order.{worsens}

@@ -3,7 +3,7 @@ use Rattle.std.specs.Prelude.{◌≡◌, true, false}
 use Rattle.rules.specs.declared.Table.{Table}
 use Rattle.rules.specs.declared.Refusal.{Refusal}
 use Rattle.rules.specs.declared.Faulty.{Faulty}
-use Rattle.rules.specs.declared.Rejudged.{Rejudged}
+use Rattle.rules.specs.Results.{Rejudged}
 use Rattle.rules.specs.Operations.{answers_from, no_answers, fresh, rejudging, verdicts}
 use Rattle.rules.specs.Chain.{is_accepted}
 

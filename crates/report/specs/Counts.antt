@@ -2,7 +2,7 @@
 use Rattle.std.specs.Prelude.{ℕ, List, [], ◌∷◌}
 use Rattle.laws.specs.Idioms.{text}
 use Rattle.laws.specs.Decimal.{decimal}
-use Rattle.rules.specs.declared.Salvaged.{Salvaged}
+use Rattle.rules.specs.Results.{Salvaged}
 use Rattle.rules.specs.Listing.{line}
 
 unfoldable pub counts_line : Salvaged → List ℕ

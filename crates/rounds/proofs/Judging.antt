@@ -10,7 +10,7 @@ use Rattle.laws.specs.Idioms.{from, up_to, filled}
 use Rattle.laws.proofs.Places.{place_next}
 use Rattle.rules.specs.declared.Refusal.{Refusal}
 use Rattle.rules.specs.declared.Answer.{Answer}
-use Rattle.rules.specs.declared.AllJudged.{AllJudged}
+use Rattle.rules.specs.Results.{AllJudged}
 use Rattle.rules.specs.Judgement.{misses}
 use Rattle.rules.specs.Chain.{accepted, refused, is_accepted}
 use Rattle.rules.specs.Operations.{no_answers}

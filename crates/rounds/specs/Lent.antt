@@ -2,7 +2,7 @@
 use Rattle.std.specs.Prelude.{ℕ, ◌+◌, ◌-◌, ◌≤◌, ◌<◌, ◌≡◌, cond, List, map, length, get_or}
 use Rattle.laws.specs.Idioms.{Within, entry, up_to, filled}
 use Rattle.rules.specs.declared.Refusal.{Refusal}
-use Rattle.rules.specs.declared.AllJudged.{AllJudged}
+use Rattle.rules.specs.Results.{AllJudged}
 use Rattle.rules.specs.Judgement.{misses}
 use Rattle.rules.specs.Chain.{is_accepted, first, ◌or_else◌}
 use Rattle.rules.specs.Operations.{no_answers}

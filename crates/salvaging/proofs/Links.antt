@@ -8,8 +8,8 @@ use lib.Dec.{ltb}
 use lib.ListN.{length}
 use borrow.Author.Tests.{lt-ltb, le-ltb, ltb-false, eq-eqb, ne_eqb}
 use Rattle.rules.specs.declared.Refusal.{Refusal}
-use Rattle.rules.specs.declared.Salvaged.{Salvaged}
-use Rattle.rules.specs.declared.Written.{Written}
+use Rattle.rules.specs.Results.{Salvaged}
+use Rattle.rules.specs.Results.{Written}
 use Rattle.rules.specs.Chain.{accepted, refused, is_accepted, ◌or_else◌, given}
 use Rattle.rules.specs.Refusals.{check_board}
 use Rattle.rules.specs.File.{records_at, cores_in, tasks_in, form_in, encode, decode}

@@ -1,7 +1,7 @@
 -- What salvaging meets before the records are looked at, what a refused salvage gives, and what salvaging promises. Assumes nothing.
 use Rattle.std.specs.Prelude.{List, ℕ, ◌≤◌, ◌≡◌}
 use Rattle.rules.specs.declared.Refusal.{Refusal}
-use Rattle.rules.specs.declared.Salvaged.{Salvaged}
+use Rattle.rules.specs.Results.{Salvaged}
 use Rattle.rules.specs.Chain.{◌or_else◌, is_accepted, given}
 use Rattle.rules.specs.Refusals.{check_board}
 use Rattle.rules.specs.File.{decode}

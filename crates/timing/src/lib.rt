@@ -3,10 +3,10 @@
 
 ghost use Rattle.std.specs.Prelude.{◌≡◌, ◌%◌, ◌≤◌};
 ghost use Rattle.rules.specs.Timing.{ddr3_1333};
-ghost use Rattle.rules.specs.Chain.{first};
+ghost use Rattle.rules.specs.Chain.{first, granted};
 ghost use Rattle.rules.specs.Refusals.{relation_fault, check_timing, bus_fault, check_bus};
 
-use basics::refused;
+use chain::refuse_first;
 use cycles::figure;
 use ranges::check_ranges;
 use rules::Refusal;
@@ -49,27 +49,17 @@ fn relation_fault(row: [u16; 15], k: u8) -> bool
 }
 
 // Refusal 7 (RULES 9.3), with the first relation at fault.
-fn check_relations(row: [u16; 15]) -> Refusal
-    ensures { result ≡ first 7 (relation_fault row) 5 }
+fn check_relations(row: [u16; 15]) -> Result<(), Refusal>
+    ensures { result ≡ granted (first 7 (relation_fault row) 5) tt }
 {
-    let mut i: u8 = 0;
-    while i < 5 {
-        if relation_fault(row, i + 1) {
-            return refused(7, i + 1);
-        }
-        i += 1;
-    }
-    refused(0, 0)
+    refuse_first(7, 5, |k| relation_fault(row, k))
 }
 
 // 6, then 7, of a DRAM's row.
-pub fn check(row: [u16; 15]) -> Refusal
-    ensures { result ≡ check_timing row }
+pub fn check(row: [u16; 15]) -> Result<(), Refusal>
+    ensures { result ≡ granted (check_timing row) tt }
 {
-    let ranges = check_ranges(row);
-    if ranges.number != 0 {
-        return ranges;
-    }
+    check_ranges(row)?;
     check_relations(row)
 }
 

@@ -2,7 +2,7 @@
 use Rattle.std.specs.Prelude.{ℕ, ◌≤◌, ◌<◌, List, ltb, get_or}
 use Rattle.laws.specs.Idioms.{entry}
 use Rattle.rules.specs.declared.Refusal.{Refusal}
-use Rattle.rules.specs.declared.AllJudged.{AllJudged}
+use Rattle.rules.specs.Results.{AllJudged}
 use Rattle.rules.specs.Chain.{first}
 use Rattle.rules.specs.Operations.{no_answers}
 

@@ -2,7 +2,7 @@
 use Rattle.std.specs.Prelude.{ℕ, ◌≤◌, ◌≡◌, List}
 use Rattle.rules.specs.declared.Table.{Table}
 use Rattle.rules.specs.declared.Refusal.{Refusal}
-use Rattle.rules.specs.declared.Written.{Written}
+use Rattle.rules.specs.Results.{Written}
 use Rattle.rules.specs.Operations.{writing, out_after}
 
 -- RULES 9.2

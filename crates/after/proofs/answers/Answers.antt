@@ -1,6 +1,6 @@
 -- The answers where no start is refused. Assumes nothing.
 use mathlib.Core.Path.{◌∙◌, ap}
-use Rattle.rules.specs.declared.AllJudged.{AllJudged}
+use Rattle.rules.specs.Results.{AllJudged}
 use Rattle.facts.proofs.AllStarts.{allowed-answers}
 use Rattle.after.proofs.answers.Goals as goal
 

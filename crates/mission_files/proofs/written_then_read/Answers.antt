@@ -5,7 +5,7 @@ use native.Mathlib.Omega.{arith}
 use Prim.Native.Nat.{◌≤◌}
 use lib.ListN.{length, replicate}
 use lib.Seq.{length-take-le}
-use Rattle.rules.specs.declared.Written.{Written}
+use Rattle.rules.specs.Results.{Written}
 use Rattle.laws.proofs.Runs.{unmapped}
 use Rattle.file_claims.specs.Files.{Shape}
 use Rattle.file_claims.proofs.Files.{return_in_place}

@@ -1,7 +1,7 @@
 -- A refused judgement of a newer table after an older one. Assumes nothing.
 use mathlib.Core.Path.{ap}
 use mathlib.Core.Bool.{false}
-use Rattle.rules.specs.declared.AllJudged.{AllJudged}
+use Rattle.rules.specs.Results.{AllJudged}
 use Rattle.unjudged.specs.Unjudged.{none_judged}
 use Rattle.rejudge.specs.Carried.{not_rejudged}
 use Rattle.rejudge.proofs.not_rejudged.Goals as goal

@@ -1,0 +1,27 @@
+-- The first place at fault is refused, and where none is nothing is. Assumes nothing.
+use Prim.Native.Nat.{◌+◌}
+use mathlib.Core.Path.{sym, ◌∙◌}
+use native.Mathlib.Omega.{arith}
+use borrow.Author.Rules.{rules}
+use Rattle.facts.proofs.Chain.{returned, was-faulty, was-faultless}
+use Rattle.facts.proofs.First.{left-all, first-hit, left-next, first-clear}
+use Rattle.chain.proofs.refuse_first.Goals as goal
+
+pub loop-i-init : goal.loop-i-init
+loop-i-init g c = left-all _ _ _
+
+pub returns-in_err-refuse_if : goal.returns-in_err-refuse_if
+returns-in_err-refuse_if g c =
+    let i = c.loop-i.i in
+    let here = c.requires.1.1.1 (i + 1) c.fault.result (omega arith) (omega arith) c.fault.ensures in
+    let w = was-faulty _ _ _ _ c.requires.1.0 c.in_err-refuse_if.ensures in
+    returned _ c.from_residual.ensures.1 ∙ rw w.1 (first-hit _ _ _ _ _ c.loop-i.invariant c.requires.1.0 (omega arith) (sym here ∙ w.0))
+
+pub loop-i-preserved : goal.loop-i-preserved
+loop-i-preserved g c =
+    let i = c.loop-i.i in
+    let here = c.requires.1.1.1 (i + 1) c.fault.result (omega arith) (omega arith) c.fault.ensures in
+    left-next _ _ _ _ c.loop-i.invariant (omega arith) (sym here ∙ was-faultless _ _ _ _ c.requires.1.0 c.in_ok-refuse_if.ensures)
+
+pub returns : goal.returns
+returns g c = first-clear _ _ _ _ _ c.loop-i.invariant (omega arith)
