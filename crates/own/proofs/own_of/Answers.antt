@@ -25,4 +25,4 @@ own_is l i place d here so e =
 pub returns : goal.returns
 returns c =
     let here = c.requires.here.1 in
-    own_is _ _ _ _ (omega (arith, c.requires.costs_len, here.low, here.high)) c.requires.doubled.0 c.with_floor.ensures
+    own_is c.args.l.now c.args.i c.args.place _ (omega (arith, c.requires.costs_len, here.low, here.high)) c.requires.doubled.0 c.with_floor.ensures
