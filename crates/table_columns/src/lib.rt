@@ -1,13 +1,14 @@
 // The figures of an accepted table's tasks in lent columns, wherever the table stands.
 #![tactic(auto)]
 
-ghost use Rattle.std.specs.Prelude.{◌≡◌, ◌<◌, length, get_or};
+ghost use Rattle.std.specs.Prelude.{◌≡◌, ◌<◌, get_or};
 ghost use Rattle.rules.specs.declared.Table.{Table};
 ghost use Rattle.rules.specs.Tasks.{no_task};
 ghost use Rattle.facts.specs.Sound.{Sound};
 ghost use Rattle.groups.specs.Grouped.{PlacesBelow};
 ghost use Rattle.groups.specs.Columns.{PerTask, Columns};
 
+use counts::Grouped;
 use rules::{Table, Task};
 
 // Where the figures of a table stand: in a table itself, or in the bytes of a file.
@@ -66,7 +67,7 @@ impl Source for Table {
 
 // Of each task its core and its latest allowed response.
 pub fn per_task<S: Source>(source: &S, core: &mut [u8; 32], latest: &mut [u64; 32])
-    requires { Sound (S.table source.now) × (length core.old ≡ 32) × (length latest.old ≡ 32) }
+    requires { Sound (S.table source.now) }
     ensures { PerTask (S.table source.now).task (S.table source.now).tasks core.new latest.new }
 {
     for i in 0..source.tasks() {
@@ -76,22 +77,19 @@ pub fn per_task<S: Source>(source: &S, core: &mut [u8; 32], latest: &mut [u64; 3
     }
 }
 
-// T, C and H of the tasks, in an order of their places.
-pub fn columns<S: Source>(
-    source: &S,
-    order: &[usize; 33],
-    spans: &mut [u64; 33],
-    costs: &mut [u64; 33],
-    asks: &mut [u64; 33],
-)
-    requires sound { Sound (S.table source.now) × PlacesBelow (S.table source.now).tasks order.now }
-    requires spans_len { (length spans.old ≡ 33) × (length costs.old ≡ 33) × (length asks.old ≡ 33) }
-    ensures { Columns (S.table source.now).task (S.table source.now).tasks order.now spans.new costs.new asks.new }
+// T with its inverse, C and H of the tasks, in an order of their places.
+pub fn columns<S: Source>(source: &S, order: &[usize; 33], tasks: &mut Grouped)
+    requires sound { Sound (S.table source.now) }
+    requires order { PlacesBelow (S.table source.now).tasks order.now }
+    ensures columns { Columns (S.table source.now).task (S.table source.now).tasks order.now tasks.new.periods tasks.new.execs tasks.new.requests }
+    ensures begins { tasks.new.begins ≡ tasks.old.begins }
 {
-    for k in 0..source.tasks() {
+    let n = source.tasks();
+    for k in 0..n {
         let task = source.task(order[k]);
-        spans[k] = task.period.0;
-        costs[k] = task.exec.0;
-        asks[k] = task.requests as u64;
+        tasks.periods[k] = task.period.0;
+        tasks.execs[k] = task.exec.0;
+        tasks.requests[k] = task.requests as u64;
     }
+    releases::inverses(n, &tasks.periods, &mut tasks.inverses);
 }
