@@ -1,9 +1,6 @@
--- A count of periods is small, a guess of it is tested, and no inverse is too large. Assumes nothing.
-use Rattle.std.proofs.Common.{◌≡◌, ℕ, ◌+◌, ◌-◌, ◌*◌, ◌/◌, ◌%◌, ◌^◌, ◌<◌, ◌≤◌, List, set, replicate, zero-le, div-lt_iff_lt-mul, mul-le-mul, le-div_iff_mul-le, arith}
+-- A count of periods is small, and a guess of it is tested. Assumes nothing.
+use Rattle.std.proofs.Common.{◌≡◌, ℕ, ◌+◌, ◌-◌, ◌*◌, ◌/◌, ◌%◌, ◌^◌, ◌<◌, ◌≤◌, div-lt_iff_lt-mul, mul-le-mul, le-div_iff_mul-le, arith}
 use Rattle.laws.specs.Idioms.{◌/↑◌}
-use Rattle.laws.proofs.Fill.{set_keeps}
-use Rattle.laws.proofs.Filled.{only_default}
-use Rattle.releases.specs.Releases.{Small}
 
 -- a/b rounded up is at most m where a is at most m times b
 pub up_high : (a b m : ℕ) → 0 < b → a ≤ m * b → a /↑ b ≤ m
@@ -26,10 +23,3 @@ guess_product t inv h g = let few : t / 256 ≤ 3906250000 = omega arith in mul-
 
 pub guess_high : (x : ℕ) → x ≤ 3906250000 * 2882303762 → x / 2 ^ 50 ≤ 10000
 guess_high x h = omega arith
-
--- no inverse is too large: none at first, then one more
-pub small-none : (n : ℕ) → Small (replicate n 0)
-small-none n = record { each = λ i. rw only_default zero-le }
-
-pub small-next : {l : List ℕ} {x : ℕ} (i : ℕ) → Small l → x ≤ 2882303762 → Small (set l i x)
-small-next {l} i so h = record { each = λ j. set_keeps (λ y. y ≤ 2882303762) l i j so.each h }
