@@ -12,7 +12,7 @@ use Rattle.rules.specs.Refusals.{figure_fault}
 use Rattle.ranges.specs.declared.Limits.{Limits}
 use Rattle.ranges.specs.Ranges.{not_burst, out_of_range, pair, AreRanges}
 
-abbrev none : Limits
+abbrev pub none : Limits
 none = record { 0 = 0; 1 = 0 }
 
 module _ {table : List Limits} (r : AreRanges table) (w : Row) (i : ℕ) where

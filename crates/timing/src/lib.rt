@@ -64,24 +64,17 @@ pub fn check(row: [u16; 15]) -> Result<(), Refusal>
 }
 
 // Is figure k of a bus's row at fault (RULES 2.8)? The first is s, the others have to be 0.
-fn bus_fault(row: [u16; 15], k: usize) -> bool
+fn bus_fault(row: [u16; 15], k: u8) -> bool
     requires { (1 ≤ k) × (k ≤ 15) }
     ensures { result ≡ bus_fault row k }
 {
-    let x = row[k - 1];
+    let x = row[k as usize - 1];
     if k == 1 { x == 0 } else { x != 0 }
 }
 
 // 16 (RULES 9.3) of a bus's row, with the first figure at fault.
-pub fn check_bus(row: [u16; 15]) -> Refusal
-    ensures { result ≡ check_bus row }
+pub fn check_bus(row: [u16; 15]) -> Result<(), Refusal>
+    ensures { result ≡ granted (check_bus row) tt }
 {
-    let mut i: usize = 0;
-    while i < 15 {
-        if bus_fault(row, i + 1) {
-            return refused(16, (i + 1) as u8);
-        }
-        i += 1;
-    }
-    refused(0, 0)
+    refuse_first(16, 15, |k| bus_fault(row, k))
 }

@@ -1,5 +1,4 @@
 -- One walk over the tasks. Assumes nothing.
-use Prim.Native.Nat.{◌-◌}
 use Rattle.rules.specs.Tasks.{task_of}
 use Rattle.tasks.proofs.Seen.{SeenAll}
 use Rattle.tasks.proofs.check.Given as goal
@@ -7,5 +6,3 @@ use Rattle.tasks.proofs.check.Given as goal
 abbrev pub invariant-loop-i : goal.invariant-loop-i
 invariant-loop-i l = SeenAll l.t.cores (task_of l.t) l.t.tasks l.i l.seen
 
-abbrev pub decreases-loop-i : goal.decreases-loop-i
-decreases-loop-i l = l.t.tasks - l.i
