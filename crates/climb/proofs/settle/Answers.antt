@@ -21,9 +21,3 @@ loop-t-init c = rw (c.max-t.ensures, c.lowest.ensures) (going_first _ _ c.requir
 
 pub returns-then-next-t : goal.returns-then-next-t
 returns-then-next-t c = last-holds _ _ c.requires refl c.loop-t.invariant c.apply-next.ensures (search rules)
-
-pub overflow_add-n : goal.overflow_add-n
-overflow_add-n c = omega (arith, c.requires.latest-high)
-
-pub loop-t-smaller : goal.loop-t-smaller
-loop-t-smaller c = omega arith

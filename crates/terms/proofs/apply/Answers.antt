@@ -9,11 +9,11 @@ unfolding job_of
 returns-then-request-job c =
     let higher = c.asked_higher-higher.ensures in
     let job = c.reached-job.ensures in
-    by_request _ _ higher.summed.is higher.summed_2.is c.saturating_mul-request.ensures job (omega (arith, job.high)) (search rules)
+    by_request _ _ {top = 18446744073709551615} higher.summed.is higher.summed_2.is (search rules) job (omega (arith, job.high)) (search rules)
 
 pub returns-else-request-job : goal.returns-else-request-job
 unfolding job_of
 returns-else-request-job c =
     let higher = c.asked_higher-higher.ensures in
     let job = c.reached-job.ensures in
-    by_job _ _ higher.summed.is higher.summed_2.is c.saturating_mul-request.ensures job (omega (arith, job.high)) (search rules)
+    by_job _ _ {top = 18446744073709551615} higher.summed.is higher.summed_2.is (search rules) job (omega (arith, job.high)) (search rules)
