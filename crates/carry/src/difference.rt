@@ -20,6 +20,7 @@ fn rule(what: Figure) -> &'static str {
 }
 
 // `task 5's execution time`; a timing figure is named with its place.
+#[derive(Clone, Copy)]
 struct Named(Difference);
 
 impl fmt::Display for Named {

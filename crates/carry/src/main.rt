@@ -4,7 +4,7 @@
 
 mod difference;
 
-use console::Failed;
+use console::{Failed, Source};
 use difference::Difference;
 use lent_bytes::front;
 use rules::{Answer, Picos, Refusal, Rejudgement, Table};
@@ -37,6 +37,10 @@ fn note_difference(rt: HostRuntime, older: Table, newer: Table) {
 }
 
 // ---- the two files
+
+const OLDER: Source = Source::Named(1);
+
+const NEWER: Source = Source::Named(2);
 
 // The two tables, and the newer one's judgement.
 struct Carried {
@@ -71,9 +75,9 @@ fn show(rt: HostRuntime, carried: &Carried) -> Result<(), Failed> {
 }
 
 // What is wrong with a file, where it is refused.
-fn explain(rt: HostRuntime, word: usize, file: &[u8]) {
+fn explain(rt: HostRuntime, from: Source, file: &[u8]) {
     if let Err(refusal) = admit_file::check(file) {
-        console::explain(rt, b"carry: ", word, refusal);
+        console::explain(rt, b"carry: ", from, refusal);
     }
 }
 
@@ -81,8 +85,8 @@ fn refuse(rt: HostRuntime, refusal: Refusal, older: &[u8], newer: &[u8]) -> Resu
     let mut out = [0u8; 29];
     let n = receipt::refused(refusal.number, &mut out);
     console::say(rt, b"carry: ", front(&out, n))?;
-    explain(rt, 1, older);
-    explain(rt, 2, newer);
+    explain(rt, OLDER, older);
+    explain(rt, NEWER, newer);
     Ok(2)
 }
 
@@ -98,17 +102,16 @@ fn carry(rt: HostRuntime, older: &[u8], newer: &[u8]) -> Result<u8, Failed> {
 
 fn load_both(rt: HostRuntime) -> Result<u8, Failed> {
     let mut older = [0u8; 7952];
-    let n = console::load(rt, b"carry: ", 1, &mut older)?;
+    let n = console::load(rt, b"carry: ", OLDER, &mut older)?;
     let mut newer = [0u8; 7952];
-    let m = console::load(rt, b"carry: ", 2, &mut newer)?;
+    let m = console::load(rt, b"carry: ", NEWER, &mut newer)?;
     carry(rt, input::front(&older, n), input::front(&newer, m))
 }
 
 fn main(rt: HostRuntime) {
-    let ended = if console::words(rt) == 2 {
-        load_both(rt)
-    } else {
-        Err(console::usage(rt, b"usage: carry OLDER NEWER\n"))
+    let ended = match console::words(rt) {
+        Some(2) => load_both(rt),
+        _ => Err(console::usage(rt, b"usage: carry OLDER NEWER\n")),
     };
     console::tell(rt, ended);
 }

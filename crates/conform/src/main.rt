@@ -6,7 +6,7 @@ mod raw;
 
 ghost use Rattle.std.specs.Prelude.{◌≤◌, length};
 
-use console::Failed;
+use console::{Failed, Source};
 use lent_bytes::front;
 use lines::{put_answer, put_fields, put_part, refused, word};
 use rules::{Answer, Refusal, Rejudgement, Salvage, Table, Verdict};
@@ -224,7 +224,7 @@ fn cut(rt: HostRuntime) -> Result<bool, Failed> {
 fn one_answer(rt: HostRuntime, letter: u8, n: u16) -> Result<bool, Failed> {
     let mut payload = [0u8; 65536];
     let n = n as usize;
-    if console::load(rt, b"conform: ", 0, &mut payload[..n])? < n {
+    if console::load(rt, b"conform: ", Source::Input, &mut payload[..n])? < n {
         return cut(rt);
     }
     said(rt, answer(rt, letter, &payload[..n]))?;
@@ -234,7 +234,7 @@ fn one_answer(rt: HostRuntime, letter: u8, n: u16) -> Result<bool, Failed> {
 // Reads and answers one case. Whether the stream goes on.
 fn one_case(rt: HostRuntime) -> Result<bool, Failed> {
     let mut head = [0u8; 3];
-    match console::load(rt, b"conform: ", 0, &mut head)? {
+    match console::load(rt, b"conform: ", Source::Input, &mut head)? {
         0 => Ok(false),
         3 => one_answer(rt, head[0], lent_bytes::le16(&head, 1)),
         _ => cut(rt),
@@ -252,10 +252,9 @@ fn all_cases(rt: HostRuntime) -> Result<u8, Failed> {
 }
 
 fn main(rt: HostRuntime) {
-    let ended = if console::words(rt) == 0 {
-        all_cases(rt)
-    } else {
-        Err(console::usage(rt, b"usage: conform\n"))
+    let ended = match console::words(rt) {
+        Some(0) => all_cases(rt),
+        _ => Err(console::usage(rt, b"usage: conform\n")),
     };
     console::tell(rt, ended);
 }

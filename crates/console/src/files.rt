@@ -44,19 +44,28 @@ fn read_named(rt: HostRuntime, name: &[u8], buf: &mut [u8]) -> io::Result<usize>
     fill(&mut file, buf)
 }
 
+// Where a file is: on standard input, or where the i-th word says.
+#[derive(Clone, Copy)]
+pub enum Source {
+    Input,
+    Named(usize),
+}
+
 // As much of a file as the buffer has room for. A word of more than 65,536 bytes is read as none; neither names a file.
-pub fn load(rt: HostRuntime, who: &[u8], i: usize, buf: &mut [u8]) -> Result<usize, Failed> {
-    if i == 0 {
-        return fill(&mut rt.stdin(), buf).map_err(|error| say_why(
+pub fn load(rt: HostRuntime, who: &[u8], from: Source, buf: &mut [u8]) -> Result<usize, Failed> {
+    match from {
+        Source::Input => fill(&mut rt.stdin(), buf).map_err(|error| say_why(
             rt,
             who,
             b"standard input",
             error,
-        ));
+        )),
+        Source::Named(i) => {
+            let mut room = [0u8; 65536];
+            let name = name_of(rt, i, &mut room);
+            read_named(rt, name, buf).map_err(|error| say_why(rt, who, name, error))
+        }
     }
-    let mut room = [0u8; 65536];
-    let name = name_of(rt, i, &mut room);
-    read_named(rt, name, buf).map_err(|error| say_why(rt, who, name, error))
 }
 
 // The name must not be taken; a file that could not be written is removed again.
@@ -73,7 +82,7 @@ fn write_new(rt: HostRuntime, name: &[u8], content: &[u8]) -> io::Result<()> {
     written
 }
 
-// A new file.
+// A new file, where the i-th word says.
 pub fn make(rt: HostRuntime, who: &[u8], i: usize, content: &[u8]) -> Result<(), Failed> {
     let mut room = [0u8; 65536];
     let name = name_of(rt, i, &mut room);

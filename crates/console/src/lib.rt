@@ -1,13 +1,13 @@
 // What the programs have in common: reading a named file or standard input, writing, words on standard error, the status.
 // No contract can speak of what is read or written: these functions are proved safe and ending. `who` is what a line on standard error
-// begins with, as `list: `. A file is the number of the word that names it; 0 is standard input.
+// begins with, as `list: `.
 #![tactic(auto)]
 
 mod files;
 mod notes;
 mod place;
 
-pub use files::{Failed, load, make, say, unwritten};
+pub use files::{Failed, Source, load, make, say, unwritten};
 pub use notes::{explain, note};
 pub use place::Place;
 use std::env::{Env, FillError};
@@ -24,16 +24,16 @@ fn first_byte(rt: HostRuntime, i: usize) -> Option<u8> {
     }
 }
 
-// How many words stand behind the program's name. No program knows a word that begins with `-`: with one of those, more than any program takes.
-pub fn words(rt: HostRuntime) -> usize {
+// How many words stand behind the program's name; none where one of them begins with `-`, which no program knows.
+pub fn words(rt: HostRuntime) -> Option<usize> {
     for i in 1..usize::MAX {
         match first_byte(rt, i) {
-            None => return i - 1,
-            Some(b'-') => return usize::MAX,
+            None => return Some(i - 1),
+            Some(b'-') => return None,
             Some(_) => {}
         }
     }
-    usize::MAX
+    None
 }
 
 // That the words are wrong.

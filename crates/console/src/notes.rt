@@ -1,4 +1,5 @@
 // Words on standard error. What cannot be written there cannot be told.
+use crate::files::Source;
 use crate::place::place_of;
 use lent_bytes::front;
 use rules::Refusal;
@@ -35,13 +36,14 @@ pub fn name_of(rt: HostRuntime, i: usize, room: &mut [u8]) -> &[u8] {
     front(room, n)
 }
 
-fn note_file(rt: HostRuntime, i: usize) {
-    if i == 0 {
-        note(rt, b"standard input");
-        return;
+fn note_file(rt: HostRuntime, file: Source) {
+    match file {
+        Source::Input => note(rt, b"standard input"),
+        Source::Named(i) => {
+            let mut room = [0u8; 65536];
+            note(rt, name_of(rt, i, &mut room));
+        }
     }
-    let mut room = [0u8; 65536];
-    note(rt, name_of(rt, i, &mut room));
 }
 
 fn note_reason(rt: HostRuntime, number: u8) {
@@ -51,9 +53,9 @@ fn note_reason(rt: HostRuntime, number: u8) {
 }
 
 // `list: NAME: refused 9 at task 3: a task's core is not one of the table's`
-pub fn explain(rt: HostRuntime, who: &[u8], i: usize, refusal: Refusal) {
+pub fn explain(rt: HostRuntime, who: &[u8], file: Source, refusal: Refusal) {
     note(rt, who);
-    note_file(rt, i);
+    note_file(rt, file);
     let number = refusal.number;
     let _written = eprint!(rt; ": refused {number}");
     if let Some(place) = place_of(refusal) {

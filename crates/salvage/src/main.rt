@@ -2,7 +2,7 @@
 // standard output, or, where the new file is there, on standard error.
 #![tactic(auto)]
 
-use console::Failed;
+use console::{Failed, Source};
 use rules::{Refusal, Salvage};
 
 // To the file that the second word names, or to standard output.
@@ -25,9 +25,8 @@ fn tell(rt: HostRuntime, named: bool, salvaged: Result<Salvage, Refusal>) -> Res
     Ok(())
 }
 
-// The file that a word names; word 0 is standard input.
-fn salvage(rt: HostRuntime, word: usize, file: &[u8]) -> Result<u8, Failed> {
-    let named = word != 0;
+fn salvage(rt: HostRuntime, from: Source, file: &[u8]) -> Result<u8, Failed> {
+    let named = matches!(from, Source::Named(_));
     let mut new = [0u8; 990];
     let salvaged = salvaging::salvage(file, &mut new);
     if let Ok(counts) = salvaged {
@@ -37,22 +36,22 @@ fn salvage(rt: HostRuntime, word: usize, file: &[u8]) -> Result<u8, Failed> {
     match salvaged {
         Ok(_) => Ok(0),
         Err(refusal) => {
-            console::explain(rt, b"salvage: ", word, refusal);
+            console::explain(rt, b"salvage: ", from, refusal);
             Ok(2)
         }
     }
 }
 
-fn take(rt: HostRuntime, word: usize) -> Result<u8, Failed> {
+fn take(rt: HostRuntime, from: Source) -> Result<u8, Failed> {
     let mut file = [0u8; 7952];
-    let n = console::load(rt, b"salvage: ", word, &mut file)?;
-    salvage(rt, word, input::front(&file, n))
+    let n = console::load(rt, b"salvage: ", from, &mut file)?;
+    salvage(rt, from, input::front(&file, n))
 }
 
 fn main(rt: HostRuntime) {
     let ended = match console::words(rt) {
-        0 => take(rt, 0),
-        2 => take(rt, 1),
+        Some(0) => take(rt, Source::Input),
+        Some(2) => take(rt, Source::Named(1)),
         _ => Err(console::usage(rt, b"usage: salvage [CUT NEW]\n")),
     };
     console::tell(rt, ended);
