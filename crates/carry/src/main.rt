@@ -2,8 +2,8 @@
 // spared, or what stood against it.
 #![tactic(auto)]
 
-use changes::Change;
-use console::{Got, note, note_number, part};
+use changes::{Change, Figure};
+use console::{Got, note, note_number};
 use lent_bytes::front;
 use rules::{Answer, Picos, Refusal, Table};
 
@@ -35,53 +35,49 @@ fn note_spared(rt: HostRuntime, spent: u64, fresh: u64) {
     note(rt, b" fresh\n");
 }
 
-// Whose figure differs, as `console::note_place` has the kinds: a bus table's timing figure or a DRAM table's, a core's, a task's.
-fn kind(what: u8, bus: bool) -> u8 {
-    match what {
-        5 => if bus { 5 } else { 1 },
-        6 => 3,
-        _ => 4,
+// Whose figure differs, with its place: a bus table's timing figure or a DRAM table's, a core's, a task's, as `console::note_place` has the kinds.
+fn note_whose(rt: HostRuntime, d: Change, bus: bool) {
+    match d.what {
+        Figure::Cores | Figure::Partitions | Figure::Tasks | Figure::Fourth => {}
+        Figure::Timing => console::note_place(rt, if bus { 5 } else { 1 }, d.place),
+        Figure::Set => console::note_place(rt, 3, d.place),
+        _ => console::note_place(rt, 4, d.place),
     }
 }
 
-// `task 5's execution time`, by the difference's number from 1. A timing figure is named with its place.
-fn note_what(rt: HostRuntime, what: u8, place: u8, bus: bool) {
-    if what > 4 {
-        console::note_place(rt, kind(what, bus), place);
+// A timing figure is named with its place.
+fn name(what: Figure) -> &'static [u8] {
+    match what {
+        Figure::Cores => b"the number of cores",
+        Figure::Partitions => b"the number of partitions",
+        Figure::Tasks => b"the number of tasks",
+        Figure::Fourth => b"the fourth byte",
+        Figure::Timing => b"",
+        Figure::Set => b"'s set",
+        Figure::Core => b"'s core",
+        Figure::Deadline => b"'s deadline",
+        Figure::Exec => b"'s execution time",
+        Figure::Requests => b"'s request count",
+        Figure::Period => b"'s period",
     }
-    note(
-        rt,
-        part(
-            b"the number of cores|the number of partitions|the number of tasks|the fourth byte||'s set|'s core|'s deadline|\
-        's execution time|'s request count|'s period",
-            b'|',
-            what,
-        ),
-    );
 }
 
-fn rule(what: u8) -> u8 {
+fn rule(what: Figure) -> &'static [u8] {
     match what {
-        9 | 10 => 2,
-        11 => 3,
-        _ => 1,
+        Figure::Exec | Figure::Requests => b": it may only rise\n",
+        Figure::Period => b": it may only get shorter\n",
+        _ => b": it must stay\n",
     }
 }
 
 // `carry: judged fresh: task 5's execution time was 330000000, is 300000000: it may only rise`
 fn note_difference(rt: HostRuntime, d: Change, bus: bool) {
     note(rt, b"carry: judged fresh: ");
-    note_what(rt, d.what, d.place, bus);
+    note_whose(rt, d, bus);
+    note(rt, name(d.what));
     note_number(rt, b" was ", d.was);
     note_number(rt, b", is ", d.is);
-    note(
-        rt,
-        part(
-            b": it must stay\n|: it may only rise\n|: it may only get shorter\n",
-            b'|',
-            rule(d.what),
-        ),
-    );
+    note(rt, rule(d.what));
 }
 
 // ---- the two files
@@ -108,13 +104,9 @@ fn judge_again(rt: HostRuntime, older: Table, newer: Table) -> bool {
     }
     if again.carried {
         note_spared(rt, rounds(answers), fresh_rounds(newer));
-    } else {
+    } else if let Some(d) = order::difference(older, newer) {
         // where their timing figures differ, both tables are of one kind
-        note_difference(
-            rt,
-            order::difference(older, newer),
-            basics::says_bus(newer.fourth),
-        );
+        note_difference(rt, d, basics::says_bus(newer.fourth));
     }
     true
 }

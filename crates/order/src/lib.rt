@@ -15,7 +15,12 @@ fn counts_difference(older: Table, newer: Table) -> Option<Change>
     ensures { result ≡ counts_difference older newer }
 {
     unequal(Figure::Cores, 0, older.cores as u64, newer.cores as u64)
-        .or_else(|| unequal(Figure::Partitions, 0, older.partitions as u64, newer.partitions as u64))
+        .or_else(|| unequal(
+            Figure::Partitions,
+            0,
+            older.partitions as u64,
+            newer.partitions as u64,
+        ))
         .or_else(|| unequal(Figure::Tasks, 0, older.tasks as u64, newer.tasks as u64))
         .or_else(|| unequal(Figure::Fourth, 0, older.fourth as u64, newer.fourth as u64))
 }

@@ -1,11 +1,9 @@
 -- The refusals before a judgement of one task, in their order. Assumes nothing.
-use Prim.Native.Nat.{ℕ, ◌≤◌}
-use mathlib.Core.Path.{◌≡◌, sym, ◌∙◌}
-use mathlib.Core.Bool.{false}
+use Prim.Native.Nat.{◌≤◌}
+use mathlib.Core.Path.{sym, ◌∙◌}
 use native.Mathlib.Omega.{arith}
 use borrow.Author.Tests.{not-false}
 use Rattle.laws.proofs.Tests.{inside}
-use Rattle.rules.specs.declared.Table.{Table}
 use Rattle.rules.specs.Refusals.{asked_fault, late_start, check_start}
 use Rattle.facts.proofs.Starts.{judged-sound}
 use Rattle.facts.proofs.Chain.{stops_at, goes_on_to, was-allowed, was-faultless}
@@ -13,14 +11,12 @@ use Rattle.chain.proofs.Walk.{stays}
 use Rattle.admit.proofs.start.Goals.{In_ok-refuse_if}
 use Rattle.admit.proofs.start.Goals as goal
 
-asked : (t : Table) (k : ℕ) → asked_fault t k ≡ false → (1 ≤ k) × (k ≤ t.tasks)
-unfolding asked_fault
-asked t k e = let h = inside _ _ _ (not-false _ e) in (h.low, h.high)
-
 -- past refusal 12
 is-asked : (c : In_ok-refuse_if) → (1 ≤ c.args.k) × (c.args.k ≤ c.args.t.tasks)
-unfolding asked_fault
-is-asked c = asked _ _ (sym c.outside.ensures ∙ was-faultless 12 0 _ _ (omega arith) c.in_ok-refuse_if.ensures)
+is-asked c =
+    let fine = not-false _ (sym c.outside.ensures ∙ was-faultless 12 0 _ _ (omega arith) c.in_ok-refuse_if.ensures) in
+    let h = inside 1 c.args.t.tasks c.args.k fine in
+    (h.low, h.high)
 
 pub returns-in_err-table : goal.returns-in_err-table
 unfolding check_start

@@ -22,15 +22,15 @@ above x = go (ltb 3 x) refl
 two : (c : Joined-outside) → c.if-outside.value ≡ not (within 1 8 c.args.cores && within 1 16 c.args.partitions)
 two c =
     elim c.if-outside.branch [
-      then-outside w ↦ w.value-is ∙ one-fault _ _ c.outside.ensures w.if-outside.true
-    | else-outside w ↦ w.value-is ∙ other_fault _ _ c.outside.ensures w.if-outside.false w.outside-else-outside.ensures
+      | then-outside w ↦ w.value-is ∙ one-fault _ _ c.outside.ensures w.if-outside.true
+      | else-outside w ↦ w.value-is ∙ other_fault _ _ c.outside.ensures w.if-outside.false w.outside-else-outside.ensures
     ]
 
 three : (c : Joined-outside-2) → c.if-outside-2.value ≡ not (within 1 8 c.args.cores && within 1 16 c.args.partitions && within 1 32 c.args.tasks)
 three c =
     elim c.if-outside-2.branch [
-      then-outside-2 w ↦ w.value-is ∙ one-fault _ _ (two c.before) w.if-outside-2.true
-    | else-outside-2 w ↦ w.value-is ∙ other_fault _ _ (two c.before) w.if-outside-2.false w.outside-else-outside-2.ensures
+      | then-outside-2 w ↦ w.value-is ∙ one-fault _ _ (two c.before) w.if-outside-2.true
+      | else-outside-2 w ↦ w.value-is ∙ other_fault _ _ (two c.before) w.if-outside-2.false w.outside-else-outside-2.ensures
     ]
 
 pub returns-then-outside-3 : goal.returns-then-outside-3

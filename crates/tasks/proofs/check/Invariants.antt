@@ -5,4 +5,3 @@ use Rattle.tasks.proofs.check.Given as goal
 
 abbrev pub invariant-loop-i : goal.invariant-loop-i
 invariant-loop-i l = SeenAll l.t.cores (task_of l.t) l.t.tasks l.i l.seen
-

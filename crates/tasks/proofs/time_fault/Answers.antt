@@ -11,8 +11,8 @@ use Rattle.tasks.proofs.time_fault.Goals as goal
 two : (c : Joined-outside) → c.if-outside.value ≡ not (within 100000000 1000000000000 (T c.args.x) && within 1 (T c.args.x) (D c.args.x))
 two c =
     elim c.if-outside.branch [
-      then-outside w ↦ w.value-is ∙ one-fault _ _ c.outside.ensures w.if-outside.true
-    | else-outside w ↦ w.value-is ∙ other_fault _ _ c.outside.ensures w.if-outside.false w.outside-else-outside.ensures
+      | then-outside w ↦ w.value-is ∙ one-fault _ _ c.outside.ensures w.if-outside.true
+      | else-outside w ↦ w.value-is ∙ other_fault _ _ c.outside.ensures w.if-outside.false w.outside-else-outside.ensures
     ]
 
 pub returns-then-outside-2 : goal.returns-then-outside-2
