@@ -10,13 +10,13 @@ use Rattle.rules.specs.declared.Table.{Table}
 use Rattle.rules.specs.declared.Refusal.{Refusal}
 use Rattle.rules.specs.declared.Answer.{Answer}
 use Rattle.rules.specs.Tasks.{latest, task_of}
-use Rattle.rules.specs.Judgement.{misses, judge}
+use Rattle.rules.specs.Judgement.{judge}
 use Rattle.facts.specs.Sound.{Sound}
 use Rattle.rules.specs.Refusals.{check_judged, asked_fault, late_start, high_start, check_one, check_all, check_start}
 use Rattle.rules.specs.Operations.{judge_one, judge_all}
-use Rattle.facts.proofs.Chain.{both-accepted, first-refuses, no_fault, returned, denied, was-allowed, was-denied, faulty, faultless, stops_at, goes_on_to}
+use Rattle.facts.proofs.Chain.{both-accepted, no_fault, returned, denied, was-allowed, was-denied, faulty, faultless, stops_at, goes_on_to}
 use Rattle.facts.proofs.Starts.{judged-sound}
-use Rattle.laws.specs.Idioms.{entry, Within}
+use Rattle.laws.specs.Idioms.{Within}
 use Rattle.laws.proofs.Tests.{inside}
 use Rattle.columns.specs.Numbered.{climbed_for}
 use Rattle.rules.specs.Chain.{refused, is_accepted, ◌or_else◌, given, granted}

@@ -24,4 +24,4 @@ judge_task-requires c = let a = c.args in
 
 pub returns : goal.returns
 returns c =
-    rounds-decide _ _ _ c.in_ok-start.ensures (c.ok_or.ensures ∙ ap (λ (o : Option Answer). ok_or o (refused 14 c.args.k)) c.judge_task.ensures)
+    rounds-decide _ _ _ c.in_ok-start.ensures (c.ok_or.ensures.value ∙ ap (λ (o : Option Answer). ok_or o (refused 14 c.args.k)) c.judge_task.ensures)
