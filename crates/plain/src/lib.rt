@@ -35,11 +35,8 @@ pub fn bound_of(verdict: Verdict) -> u64
 pub fn all_starts(starts: &[u64]) -> [u64; 32]
     ensures { result ≡ filled 32 0 (take 32 starts.now) }
 {
-    let mut all = [0u64; 32];
-    let mut i: usize = 0;
-    while i < 32 && i < starts.len() {
-        all[i] = starts[i];
-        i += 1;
-    }
+    let mut all = [0; 32];
+    let lent = starts.len().min(32);
+    all[..lent].copy_from_slice(&starts[..lent]);
     all
 }

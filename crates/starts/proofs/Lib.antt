@@ -1,3 +1,3 @@
--- The laws that proofs of this crate and of others cite.
---     Column     a column of a list, filled place by place
-pub mod Column
+-- What the function's proof stands on.
+--     Mapped   an array mapped
+pub mod Mapped

@@ -1,12 +1,12 @@
--- Texts that are put one after the other are one text; and what a loop that stores a text byte by byte has still to store. Assumes nothing.
+-- Texts that are put one after the other are one text; and a text that fills a part of a buffer is put there. Assumes nothing.
 use mathlib.Core.Path.{◌≡◌, refl, ◌∙◌}
-use mathlib.Core.List.{List, [], ◌∷◌, ◌++◌}
-use Prim.Native.Nat.{ℕ, suc, ◌+◌, ◌<◌, ◌≤◌}
+use mathlib.Core.List.{List, [], ◌∷◌, ◌++◌, append_assoc}
+use Prim.Native.Nat.{ℕ, suc, ◌+◌, ◌-◌, ◌<◌, ◌≤◌}
 use native.Mathlib.Omega.{arith}
 use native.Mathlib.Nat.{add-zero, zero-add}
-use native.Mathlib.Numerals.{add-one}
-use lib.ListN.{length, get_or, take, drop, set, length-append, drop_of_length-le}
-use lib.Seq.{sets, sets-eq, drop-cons, take-append_seam}
+use borrow.Rule.Slice.PartMut.{put_mid}
+use lib.ListN.{length, take, set, length-append}
+use lib.Seq.{sets, sets-eq, drop-drop, take-append_seam}
 use borrow.Author.Tests.{le-leb, lt-leb}
 use Rattle.text.specs.Put.{Put, Given}
 
@@ -30,14 +30,11 @@ pub ◌then◌ : {l m r : List ℕ} {at mid next : ℕ} {v w : List ℕ} → Put
   bytes = rw (q.bytes, p.bytes, p.ends, sets-append l at v w);
 }
 
-module _ (l : List ℕ) (at : ℕ) (w : List ℕ) (i : ℕ) where
-  pub store_next : i < length w → sets l (at + i) (drop i w) ≡ sets (set l (at + i) (get_or w i 0)) (at + (i + 1)) (drop (i + 1) w)
-  store_next h =
-      let e : at + (i + 1) ≡ suc (at + i) = omega arith in
-      rw (e, add-one i, drop-cons w i 0 h)
-
-  pub store_done : length w ≤ i → sets l (at + i) (drop i w) ≡ l
-  store_done h = rw (drop_of_length-le w h)
+-- a part that is written whole and given back
+pub part-put : (l : List ℕ) (at : ℕ) (w : List ℕ) → at + length w ≤ length l → Put l at w (at + length w) (put_mid at (at + length w - at) l w)
+part-put l at w room =
+    let e : at + length w - at ≡ length w = omega arith in
+    record { ends = refl; bytes = rw (e, drop-drop, sets-eq w l at room, append_assoc) }
 
 -- what has been put at the start
 module _ {l r text : List ℕ} {next : ℕ} (p : Put l 0 text next r) where
