@@ -2,15 +2,10 @@
 // spared, or what stood against it.
 #![tactic(auto)]
 
-<<<<<<< HEAD
 mod difference;
 
 use console::{Failed, Source};
 use difference::Difference;
-=======
-use changes::{Change, Figure};
-use console::{Got, note, note_number};
->>>>>>> a5c0ce6616a54cfa15519f48fa8eb205c291b23e
 use lent_bytes::front;
 use rules::{Answer, Picos, Refusal, Rejudgement, Table};
 
@@ -28,7 +23,6 @@ fn fresh_rounds(t: Table) -> u64 {
 
 // `carry: 42 rounds from the older bounds, 114 fresh`
 fn note_spared(rt: HostRuntime, spent: u64, fresh: u64) {
-<<<<<<< HEAD
     let _written = eprintln!(rt; "carry: {spent} rounds from the older bounds, {fresh} fresh");
 }
 
@@ -40,56 +34,6 @@ fn note_difference(rt: HostRuntime, older: Table, newer: Table) {
         let difference = Difference { change, bus };
         let _written = eprintln!(rt; "carry: judged fresh: {difference}");
     }
-=======
-    note_number(rt, b"carry: ", spent);
-    note_number(rt, b" rounds from the older bounds, ", fresh);
-    note(rt, b" fresh\n");
-}
-
-// Whose figure differs, with its place: a bus table's timing figure or a DRAM table's, a core's, a task's, as `console::note_place` has the kinds.
-fn note_whose(rt: HostRuntime, d: Change, bus: bool) {
-    match d.what {
-        Figure::Cores | Figure::Partitions | Figure::Tasks | Figure::Fourth => {}
-        Figure::Timing => console::note_place(rt, if bus { 5 } else { 1 }, d.place),
-        Figure::Set => console::note_place(rt, 3, d.place),
-        _ => console::note_place(rt, 4, d.place),
-    }
-}
-
-// A timing figure is named with its place.
-fn name(what: Figure) -> &'static [u8] {
-    match what {
-        Figure::Cores => b"the number of cores",
-        Figure::Partitions => b"the number of partitions",
-        Figure::Tasks => b"the number of tasks",
-        Figure::Fourth => b"the fourth byte",
-        Figure::Timing => b"",
-        Figure::Set => b"'s set",
-        Figure::Core => b"'s core",
-        Figure::Deadline => b"'s deadline",
-        Figure::Exec => b"'s execution time",
-        Figure::Requests => b"'s request count",
-        Figure::Period => b"'s period",
-    }
-}
-
-fn rule(what: Figure) -> &'static [u8] {
-    match what {
-        Figure::Exec | Figure::Requests => b": it may only rise\n",
-        Figure::Period => b": it may only get shorter\n",
-        _ => b": it must stay\n",
-    }
-}
-
-// `carry: judged fresh: task 5's execution time was 330000000, is 300000000: it may only rise`
-fn note_difference(rt: HostRuntime, d: Change, bus: bool) {
-    note(rt, b"carry: judged fresh: ");
-    note_whose(rt, d, bus);
-    note(rt, name(d.what));
-    note_number(rt, b" was ", d.was);
-    note_number(rt, b", is ", d.is);
-    note(rt, rule(d.what));
->>>>>>> a5c0ce6616a54cfa15519f48fa8eb205c291b23e
 }
 
 // ---- the two files
@@ -120,24 +64,12 @@ fn judge_files(older: &[u8], newer: &[u8]) -> Result<Carried, Refusal> {
 fn show(rt: HostRuntime, carried: &Carried) -> Result<(), Failed> {
     let answers = carried.again.answers;
     let mut out = [0u8; 3266];
-<<<<<<< HEAD
     let n = listing::lines(carried.newer, answers, &mut out);
     console::say(rt, b"carry: ", front(&out, n))?;
     if carried.again.carried {
         note_spared(rt, rounds(&answers), fresh_rounds(carried.newer));
     } else {
         note_difference(rt, carried.older, carried.newer);
-=======
-    let n = listing::lines(newer, answers, &mut out);
-    if !console::say(rt, b"carry: ", front(&out, n)) {
-        return false;
-    }
-    if again.carried {
-        note_spared(rt, rounds(answers), fresh_rounds(newer));
-    } else if let Some(d) = order::difference(older, newer) {
-        // where their timing figures differ, both tables are of one kind
-        note_difference(rt, d, basics::says_bus(newer.fourth));
->>>>>>> a5c0ce6616a54cfa15519f48fa8eb205c291b23e
     }
     Ok(())
 }
