@@ -1,11 +1,11 @@
 -- A chain of refusals: where it gives none, none of its links does; and how code walks it. Assumes nothing.
 use mathlib.Core.Path.{◌≡◌, refl, sym, ◌∙◌, ap}
-use mathlib.Core.Bool.{Bool, true, false, cond}
+use mathlib.Core.Bool.{Bool, true, false, cond, not}
 use Prim.Native.Nat.{ℕ, suc}
 use native.Mathlib.Omega.{arith}
 use borrow.Author.Tests.{eqb-true, eq-eqb, ne_eqb}
 use Rattle.rules.specs.declared.Refusal.{Refusal}
-use Rattle.std.specs.Prelude.{Result, Ok, Err, IsErrAnd, ◌≤◌}
+use Rattle.std.specs.Prelude.{Result, Ok, Err, IsErrAnd, is_ok, is_err, ◌≤◌}
 use Rattle.std.proofs.lemmas.Result.{err_from_is_err_and}
 use Rattle.rules.specs.Chain.{accepted, refused, is_accepted, ◌or_else◌, given, granted, refusal_of}
 
@@ -103,3 +103,34 @@ module _ {A B : Type 0} (a b : Refusal) (x : A) (y : B) where
 
   pub goes_on_to : {v : A} → Ok v ≡ granted a x → {r : Result B Refusal} → r ≡ granted b y → r ≡ granted (a or_else b) y
   goes_on_to e h = let w = was-allowed a x (sym e) in h ∙ sym (rw (second_decides a b w.0))
+
+-- is it refused? as code asks an answer
+module _ {A : Type 0} (r : Refusal) (x : A) {y : Result A Refusal} (is : y ≡ granted r x) {b : Bool} where
+  pub asked-ok : b ≡ is_ok y → is_accepted r ≡ b
+  unfolding granted
+  asked-ok e = go (is_accepted r) refl (e ∙ ap is_ok is)
+    where
+      go : (a : Bool) → is_accepted r ≡ a → b ≡ is_ok (cond a (Ok x) (Err r)) → is_accepted r ≡ b
+      go true p q = p ∙ sym q
+      go false p q = p ∙ sym q
+
+  pub asked_err : b ≡ is_err y → is_accepted r ≡ not b
+  unfolding granted
+  asked_err e = go (is_accepted r) refl (e ∙ ap is_err is)
+    where
+      go : (a : Bool) → is_accepted r ≡ a → b ≡ is_err (cond a (Ok x) (Err r)) → is_accepted r ≡ not b
+      go true p q = p ∙ sym (ap not q)
+      go false p q = p ∙ sym (ap not q)
+
+-- what is refused is so whatever was asked for
+pub denied-alike : {A B : Type 0} (r : Refusal) (x : A) (y : B) {d : Refusal} → Err d ≡ granted r x → Err d ≡ granted r y
+denied-alike r x y e = let w = was-denied r x (sym e) in rw (← w.1) (sym (denied r y w.0))
+
+-- and what stands there where something is refused is not asked for
+pub granted-where : {A : Type 0} (r : Refusal) (x y : A) → granted r (cond (is_accepted r) x y) ≡ granted r x
+unfolding granted
+granted-where r x y = go (is_accepted r)
+  where
+    go : (b : Bool) → cond b (Ok (cond b x y)) (Err r) ≡ cond b (Ok x) (Err r)
+    go true = refl
+    go false = refl

@@ -1,10 +1,8 @@
 -- The lines of a table, as code puts them together. Assumes nothing.
 use mathlib.Core.Path.{◌≡◌, refl}
-use mathlib.Core.Bool.{true}
+use mathlib.Core.Bool.{true, false}
 use mathlib.Core.List.{List, ◌++◌}
-use borrow.Author.Tests.{eq-eqb, ne_eqb}
 use Rattle.rules.specs.declared.Table.{Table}
-use Rattle.rules.specs.declared.Refusal.{Refusal}
 use Rattle.rules.specs.declared.Answer.{Answer}
 use Rattle.rules.specs.Chain.{is_accepted}
 use Rattle.rules.specs.Refusals.{check_judged}
@@ -19,15 +17,11 @@ unfolding table_lines rows last
 table-lines t answers = refl
 
 -- what is listed for a table, by what its check gave
-module _ (t : Table) (r : Refusal) (checked : r ≡ check_judged t) where
-  pub text-refused : (r.number ≡ 0 → ⊥) → (answers : List Answer) → table_text t answers ≡ refused_line r.number
+module _ (t : Table) (answers : List Answer) where
+  pub text-refused : is_accepted (check_judged t) ≡ false → table_text t answers ≡ refused_line (check_judged t).number
   unfolding table_text
-  text-refused h answers = rw (← checked, ne_eqb r.number 0 h)
+  text-refused e = rw e
 
-  module _ (h : r.number ≡ 0) where
-    pub text-accepted : is_accepted (check_judged t) ≡ true
-    text-accepted = rw checked at (eq-eqb r.number 0 h)
-
-    pub text-whole : (answers : List Answer) → table_text t answers ≡ table_lines t answers
-    unfolding table_text
-    text-whole answers = rw text-accepted
+  pub text-whole : is_accepted (check_judged t) ≡ true → table_text t answers ≡ table_lines t answers
+  unfolding table_text
+  text-whole e = rw e

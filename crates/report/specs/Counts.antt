@@ -2,8 +2,8 @@
 use Rattle.std.specs.Prelude.{ℕ, List, [], ◌∷◌}
 use Rattle.laws.specs.Idioms.{text}
 use Rattle.laws.specs.Decimal.{decimal}
-use Rattle.rules.specs.Results.{Salvaged}
+use Rattle.rules.specs.declared.Salvage.{Salvage}
 use Rattle.rules.specs.Listing.{line}
 
-unfoldable pub counts_line : Salvaged → List ℕ
+unfoldable pub counts_line : Salvage → List ℕ
 counts_line r = line (text "promised" ∷ decimal r.promised ∷ text "kept" ∷ decimal r.kept ∷ text "stopped" ∷ decimal r.stopped ∷ [])

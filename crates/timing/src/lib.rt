@@ -32,20 +32,13 @@ fn relation_fault(row: [u16; 15], k: u8) -> bool
     requires { (1 ≤ k) × (k ≤ 5) }
     ensures { result ≡ relation_fault row k }
 {
-    if k == 1 {
-        return figure(row, cycles::TWR) < figure(row, cycles::TWTR);
+    match k {
+        1 => figure(row, cycles::TWR) < figure(row, cycles::TWTR),
+        2 => cycles::turn(row) < figure(row, cycles::CL),
+        3 => figure(row, cycles::CL) + figure(row, cycles::BL) / 2 + 2 <= figure(row, cycles::TRTP),
+        4 => figure(row, cycles::TRCD) + hits::hit(row).0 <= figure(row, cycles::TRAS),
+        _ => remainder(figure(row, cycles::NCOLS), figure(row, cycles::BL)) != 0,
     }
-    if k == 2 {
-        return cycles::turn(row) < figure(row, cycles::CL);
-    }
-    if k == 3 {
-        return figure(row, cycles::CL) + figure(row, cycles::BL) / 2 + 2
-            <= figure(row, cycles::TRTP);
-    }
-    if k == 4 {
-        return figure(row, cycles::TRCD) + hits::hit(row).0 <= figure(row, cycles::TRAS);
-    }
-    remainder(figure(row, cycles::NCOLS), figure(row, cycles::BL)) != 0
 }
 
 // Refusal 7 (RULES 9.3), with the first relation at fault.
@@ -64,24 +57,17 @@ pub fn check(row: [u16; 15]) -> Result<(), Refusal>
 }
 
 // Is figure k of a bus's row at fault (RULES 2.8)? The first is s, the others have to be 0.
-fn bus_fault(row: [u16; 15], k: usize) -> bool
+fn bus_fault(row: [u16; 15], k: u8) -> bool
     requires { (1 ≤ k) × (k ≤ 15) }
     ensures { result ≡ bus_fault row k }
 {
-    let x = row[k - 1];
+    let x = row[k as usize - 1];
     if k == 1 { x == 0 } else { x != 0 }
 }
 
 // 16 (RULES 9.3) of a bus's row, with the first figure at fault.
-pub fn check_bus(row: [u16; 15]) -> Refusal
-    ensures { result ≡ check_bus row }
+pub fn check_bus(row: [u16; 15]) -> Result<(), Refusal>
+    ensures { result ≡ granted (check_bus row) tt }
 {
-    let mut i: usize = 0;
-    while i < 15 {
-        if bus_fault(row, i + 1) {
-            return refused(16, (i + 1) as u8);
-        }
-        i += 1;
-    }
-    refused(0, 0)
+    refuse_first(16, 15, |k| bus_fault(row, k))
 }

@@ -8,20 +8,19 @@ use Rattle.facts.proofs.First.{left-all, first-hit, left-next, first-clear}
 use Rattle.chain.proofs.refuse_first.Goals as goal
 
 pub loop-i-init : goal.loop-i-init
-loop-i-init g c = left-all _ _ _
+loop-i-init g c = λ test same. left-all _ _ _
 
 pub returns-in_err-refuse_if : goal.returns-in_err-refuse_if
-returns-in_err-refuse_if g c =
-    let i = c.loop-i.i in
-    let here = c.requires.1.1.1 (i + 1) c.fault.result (omega arith) (omega arith) c.fault.ensures in
-    let w = was-faulty _ _ _ _ c.requires.1.0 c.in_err-refuse_if.ensures in
-    returned _ c.from_residual.ensures.1 ∙ rw w.1 (first-hit _ _ _ _ _ c.loop-i.invariant c.requires.1.0 (omega arith) (sym here ∙ w.0))
+returns-in_err-refuse_if g c = λ test same.
+    let low = c.requires.number in
+    let here = same (c.loop-i.i + 1) c.fault.result (omega arith) (omega arith) c.fault.ensures in
+    let w = was-faulty _ _ _ _ low c.in_err-refuse_if.ensures in
+    returned _ c.from_residual.ensures.1 ∙ rw w.1 (first-hit _ test _ _ _ (c.loop-i.invariant test same) low (omega arith) (sym here ∙ w.0))
 
 pub loop-i-preserved : goal.loop-i-preserved
-loop-i-preserved g c =
-    let i = c.loop-i.i in
-    let here = c.requires.1.1.1 (i + 1) c.fault.result (omega arith) (omega arith) c.fault.ensures in
-    left-next _ _ _ _ c.loop-i.invariant (omega arith) (sym here ∙ was-faultless _ _ _ _ c.requires.1.0 c.in_ok-refuse_if.ensures)
+loop-i-preserved g c = λ test same.
+    let here = same (c.loop-i.i + 1) c.fault.result (omega arith) (omega arith) c.fault.ensures in
+    left-next _ test _ _ (c.loop-i.invariant test same) (omega arith) (sym here ∙ was-faultless _ _ _ _ c.requires.number c.in_ok-refuse_if.ensures)
 
 pub returns : goal.returns
-returns g c = first-clear _ _ _ _ _ c.loop-i.invariant (omega arith)
+returns g c = λ test same. first-clear _ test _ _ _ (c.loop-i.invariant test same) (omega arith)
