@@ -121,3 +121,16 @@ module _ {A : Type 0} (r : Refusal) (x : A) {y : Result A Refusal} (is : y ≡ g
       go : (a : Bool) → is_accepted r ≡ a → b ≡ is_err (cond a (Ok x) (Err r)) → is_accepted r ≡ not b
       go true p q = p ∙ sym (ap not q)
       go false p q = p ∙ sym (ap not q)
+
+-- what is refused is so whatever was asked for
+pub denied-alike : {A B : Type 0} (r : Refusal) (x : A) (y : B) {d : Refusal} → Err d ≡ granted r x → Err d ≡ granted r y
+denied-alike r x y e = let w = was-denied r x (sym e) in rw (← w.1) (sym (denied r y w.0))
+
+-- and what stands there where something is refused is not asked for
+pub granted-where : {A : Type 0} (r : Refusal) (x y : A) → granted r (cond (is_accepted r) x y) ≡ granted r x
+unfolding granted
+granted-where r x y = go (is_accepted r)
+  where
+    go : (b : Bool) → cond b (Ok (cond b x y)) (Err r) ≡ cond b (Ok x) (Err r)
+    go true = refl
+    go false = refl

@@ -18,11 +18,11 @@ fn records_in(file: &[u8]) -> Result<(), Refusal>
     requires { Sized file.now }
     ensures { result ≡ granted (check_tasks (decode file.now)) tt }
 {
-    let mut seen = tasks::no_faults();
-    for i in 0..file[2] {
-        seen = tasks::noted(seen, i + 1, file[0], fields::task_at(file, usize::from(i)));
-    }
-    tasks::told(seen)
+    tasks::check_each(
+        file[0],
+        file[2],
+        |k| fields::task_at(file, usize::from(k) - 1),
+    )
 }
 
 // 5 to 11 and 16, from the bytes: no table is made.
@@ -49,7 +49,7 @@ fn take(file: &[u8]) -> Result<Table, Refusal>
 pub fn read(file: &[u8]) -> Result<Table, Refusal>
     ensures { result ≡ granted (reading file.now).refusal (reading file.now).table }
 {
-    arrival::whole(file)?;
+    arrival::whole(file)?; // the first part
     take(file)
 }
 

@@ -1,10 +1,11 @@
 // Checks 9 to 11, of a table's tasks, in one walk over them.
 #![tactic(auto)]
 
-ghost use Rattle.std.specs.Prelude.{◌≡◌, ◌≤◌};
+ghost use Rattle.std.specs.Prelude.{◌≡◌, ◌≤◌, ℕ};
+ghost use Rattle.rules.specs.declared.Task.{Task};
 ghost use Rattle.rules.specs.Chain.{granted};
 ghost use Rattle.rules.specs.Tasks.{no_task, task_of};
-ghost use Rattle.rules.specs.Refusals.{time_fault, check_tasks};
+ghost use Rattle.rules.specs.Refusals.{time_fault, tasks_refusal, check_tasks};
 ghost use Rattle.tasks.specs.Faults.{earliest, no_faults, with_task, placed, told_by};
 
 use basics::outside;
@@ -98,14 +99,22 @@ pub fn task_of(t: &Table, k: u8) -> Task
     }
 }
 
-// 9 to 11: the tasks, in one walk.
+// 9 to 11 of tasks 1 to n, in one walk; each is given by its number.
+pub fn check_each<F: Fn(u8) -> Task>(cores: u8, n: u8, task: F) -> Result<(), Refusal>
+    requires { (k : ℕ) → 1 ≤ k → k ≤ n → F.pre task k }
+    ensures { (at : ℕ → Task) → ((k : ℕ) (x : Task) → 1 ≤ k → k ≤ n → F.post task k x → x ≡ at k) → result ≡ granted (tasks_refusal cores at n) tt }
+{
+    let mut seen = no_faults();
+    for i in 0..n {
+        let k = i + 1;
+        seen = noted(seen, k, cores, task(k));
+    }
+    told(seen)
+}
+
+// 9 to 11 of a table.
 pub fn check(t: Table) -> Result<(), Refusal>
     ensures { result ≡ granted (check_tasks t) tt }
 {
-    let mut seen = no_faults();
-    for i in 0..t.tasks {
-        let k = i + 1;
-        seen = noted(seen, k, t.cores, task_of(&t, k));
-    }
-    told(seen)
+    check_each(t.cores, t.tasks, |k| task_of(&t, k))
 }
