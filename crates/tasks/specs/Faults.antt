@@ -1,5 +1,5 @@
 -- What a walk over the tasks keeps: the first at fault of each kind, 9 to 11. Assumes nothing.
-use Rattle.std.specs.Prelude.{ℕ, Bool, cond, Option, None, Some}
+use Rattle.std.specs.Prelude.{ℕ, Bool, Option, None, Some}
 use Rattle.std.specs.Option.{option_or}
 use Rattle.std.specs.Bool.{then_some}
 use Rattle.rules.specs.declared.Task.{Task}

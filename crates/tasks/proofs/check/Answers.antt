@@ -1,5 +1,5 @@
 -- One walk over the tasks. Assumes nothing.
-use mathlib.Core.Path.{sym, ◌∙◌}
+use mathlib.Core.Path.{sym}
 use native.Mathlib.Omega.{arith}
 use Rattle.rules.specs.Tasks.{task_of}
 use Rattle.rules.specs.Refusals.{check_tasks}
