@@ -19,7 +19,7 @@ fn check_row(fourth: u8, row: [u16; 15]) -> Result<(), Refusal>
     }
 }
 
-// 5 to 8 and 16: the board, by its counts, its timing figures and its sets.
+// 5 to 8 and 16: the board, by its counts, its timing figures and its sets. A struct of the six would be made of a table or of a file's bytes, and taken apart here.
 pub fn board_refusal(
     cores: u8,
     partitions: u8,

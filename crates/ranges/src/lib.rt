@@ -56,5 +56,9 @@ pub fn check_ranges(row: [u16; 15]) -> Result<(), Refusal>
     ensures { result ≡ granted (first 6 (figure_fault row) 15) tt }
 {
     let table = all_limits();
-    refuse_first(6, 15, |k| is_outside(table[k as usize - 1], k, row[k as usize - 1]))
+    refuse_first(
+        6,
+        15,
+        |k| is_outside(table[k as usize - 1], k, row[k as usize - 1]),
+    )
 }

@@ -27,7 +27,7 @@ fn remainder(a: u64, b: u64) -> u64
     if b == 0 { a } else { a % b }
 }
 
-// Is relation k of RULES 2.5 broken?
+// Is relation k of RULES 2.5 broken? The number is the document's and the refusal's place (`check_timing`), so it is no enum's.
 fn relation_fault(row: [u16; 15], k: u8) -> bool
     requires { (1 ≤ k) × (k ≤ 5) }
     ensures { result ≡ relation_fault row k }
