@@ -6,6 +6,9 @@ use Rattle.columns.proofs.AllJudged.{judged_is}
 use Rattle.file.proofs.Reading.{file_sound}
 use Rattle.verdicts.proofs.judge_accepted.Goals as goal
 
+pub invariant_of-laid : goal.invariant_of-laid
+invariant_of-laid c = record { accepted = judged_file _ c.requires }
+
 pub laid-requires : goal.laid-requires
 laid-requires c = file_sound _ (judged_file _ c.requires)
 
