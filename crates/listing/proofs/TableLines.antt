@@ -1,13 +1,19 @@
 -- The lines of a table, as code puts them together. Assumes nothing.
-use mathlib.Core.Path.{◌≡◌, refl}
-use mathlib.Core.Bool.{true, false}
+use mathlib.Core.Path.{◌≡◌, refl, sym, ◌∙◌}
+use mathlib.Core.Bool.{true}
 use mathlib.Core.List.{List, ◌++◌}
 use Rattle.rules.specs.declared.Table.{Table}
 use Rattle.rules.specs.declared.Answer.{Answer}
-use Rattle.rules.specs.Chain.{is_accepted}
+use Rattle.rules.specs.declared.Refusal.{Refusal}
+use Rattle.rules.specs.Chain.{is_accepted, granted}
 use Rattle.rules.specs.Refusals.{check_judged}
+use Rattle.rules.specs.Operations.{judge_all, fresh_starts}
 use Rattle.rules.specs.Listing.{table_lines, table_text, refused_line}
 use Rattle.laws.specs.Idioms.{text}
+use Rattle.std.specs.Prelude.{Result, Ok, Err}
+use Rattle.facts.proofs.Chain.{allowed, was-allowed, was-denied}
+use Rattle.facts.proofs.Starts.{judged-accepted}
+use Rattle.facts.proofs.AllStarts.{none-refused, all-fresh}
 use Rattle.rows.specs.Rows.{rows}
 use Rattle.misses.specs.Last.{last}
 
@@ -17,11 +23,21 @@ unfolding table_lines rows last
 table-lines t answers = refl
 
 -- what is listed for a table, by what its check gave
-module _ (t : Table) (answers : List Answer) where
-  pub text-refused : is_accepted (check_judged t) ≡ false → table_text t answers ≡ refused_line (check_judged t).number
+module _ {A : Type 0} (t : Table) (answers : List Answer) (x : A) where
+  pub text-refused : {r : Refusal} → Err r ≡ granted (check_judged t) x → table_text t answers ≡ refused_line r.number
   unfolding table_text
-  text-refused e = rw e
+  text-refused e = let w = was-denied _ _ (sym e) in rw (w.0, w.1)
 
-  pub text-whole : is_accepted (check_judged t) ≡ true → table_text t answers ≡ table_lines t answers
+  pub text-whole : {y : A} → Ok y ≡ granted (check_judged t) x → table_text t answers ≡ table_lines t answers
   unfolding table_text
-  text-whole e = rw e
+  text-whole e = rw (was-allowed _ _ (sym e)).0
+
+-- a judgement from nothing is not refused
+module _ (t : Table) (passed : is_accepted (check_judged t) ≡ true) where
+  pub fresh_judged : granted (judge_all t fresh_starts).refusal (judge_all t fresh_starts).answers ≡ Ok (judge_all t fresh_starts).answers
+  unfolding judge_all
+  fresh_judged = allowed _ _ (rw (none-refused t passed fresh_starts (all-fresh t (judged-accepted t passed))))
+
+  pub fresh_answers : {r : Result (List Answer) Refusal} → r ≡ granted (judge_all t fresh_starts).refusal (judge_all t fresh_starts).answers
+      → {given : List Answer} → r ≡ Ok given → given ≡ (judge_all t fresh_starts).answers
+  fresh_answers e is = let so = sym is ∙ e ∙ fresh_judged in cc
