@@ -11,9 +11,8 @@ use Rattle.rules.specs.Operations.{judge_all, fresh_starts}
 use Rattle.rules.specs.Listing.{table_lines, table_text, refused_line}
 use Rattle.laws.specs.Idioms.{text}
 use Rattle.std.specs.Prelude.{Result, Ok, Err}
-use Rattle.facts.proofs.Chain.{allowed, was-allowed, was-denied}
-use Rattle.facts.proofs.Starts.{judged-accepted}
-use Rattle.facts.proofs.AllStarts.{none-refused, all-fresh}
+use Rattle.facts.proofs.Chain.{was-allowed, was-denied}
+use Rattle.columns.proofs.Given.{fresh_given}
 use Rattle.rows.specs.Rows.{rows}
 use Rattle.misses.specs.Last.{last}
 
@@ -33,11 +32,6 @@ module _ {A : Type 0} (t : Table) (answers : List Answer) (x : A) where
   text-whole e = rw (was-allowed _ _ (sym e)).0
 
 -- a judgement from nothing is not refused
-module _ (t : Table) (passed : is_accepted (check_judged t) ≡ true) where
-  pub fresh_judged : granted (judge_all t fresh_starts).refusal (judge_all t fresh_starts).answers ≡ Ok (judge_all t fresh_starts).answers
-  unfolding judge_all
-  fresh_judged = allowed _ _ (rw (none-refused t passed fresh_starts (all-fresh t (judged-accepted t passed))))
-
-  pub fresh_answers : {r : Result (List Answer) Refusal} → r ≡ granted (judge_all t fresh_starts).refusal (judge_all t fresh_starts).answers
-      → {given : List Answer} → r ≡ Ok given → given ≡ (judge_all t fresh_starts).answers
-  fresh_answers e is = let so = sym is ∙ e ∙ fresh_judged in cc
+pub fresh_answers : (t : Table) → is_accepted (check_judged t) ≡ true → {r : Result (List Answer) Refusal}
+    → r ≡ granted (judge_all t fresh_starts).refusal (judge_all t fresh_starts).answers → {given : List Answer} → r ≡ Ok given → given ≡ (judge_all t fresh_starts).answers
+fresh_answers t passed e is = let so = sym is ∙ e ∙ fresh_given t passed in cc

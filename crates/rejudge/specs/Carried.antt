@@ -1,13 +1,20 @@
 -- A newer table after an older one: what code answers, and what the operation promises. Assumes nothing.
 use Rattle.std.specs.Prelude.{◌≡◌, cond, Result, Ok, Err, IfOk}
 use Rattle.rules.specs.declared.Table.{Table}
+use Rattle.rules.specs.declared.Refusal.{Refusal}
+use Rattle.rules.specs.declared.Faulty.{Faulty}
 use Rattle.rules.specs.declared.CarryRefusal.{CarryRefusal}
 use Rattle.rules.specs.declared.Rejudgement.{Rejudgement}
 use Rattle.rules.specs.Results.{Rejudged}
 use Rattle.rules.specs.Operations.{answers_from, fresh, rejudging, verdicts}
 use Rattle.rules.specs.Chain.{is_accepted}
 
--- what code answers: the refusal and whose it is, or where nothing is refused whether it is carried, and the answers
+-- what code answers of one of the two
+unfoldable pub about : {A : Type 0} → Faulty → Result A Refusal → Result A CarryRefusal
+about which (Ok x) = Ok x
+about which (Err r) = Err (record { refusal = r; faulty = which })
+
+-- and of both: the refusal and whose it is, or where nothing is refused whether it is carried, and the answers
 unfoldable pub rejudged : Rejudged → Result Rejudgement CarryRefusal
 rejudged r = cond (is_accepted r.refusal) (Ok (record { carried = r.carried; answers = r.answers })) (Err (record { refusal = r.refusal; faulty = r.faulty }))
 

@@ -1,10 +1,11 @@
 -- `list_table` meets its contract: a judgement from nothing is not refused. Assumes nothing.
 use mathlib.Core.Path.{refl, ◌∙◌}
-use Rattle.listing.proofs.TableLines.{fresh_judged, fresh_answers}
+use Rattle.columns.proofs.Given.{fresh_given}
+use Rattle.listing.proofs.TableLines.{fresh_answers}
 use Rattle.listing.proofs.list_table.Goals as goal
 
 pub unwrap-answers-requires : goal.unwrap-answers-requires
-unwrap-answers-requires c = rw (c.judge_tasks.ensures ∙ fresh_judged _ c.requires) refl
+unwrap-answers-requires c = rw (c.judge_tasks.ensures ∙ fresh_given _ c.requires) refl
 
 pub returns : goal.returns
 returns c =
