@@ -36,7 +36,8 @@ pub fn all_starts(starts: &[u64]) -> [u64; 32]
     ensures { result ≡ filled 32 0 (take 32 starts.now) }
 {
     let mut all = [0; 32];
-    let lent = starts.len().min(32);
-    all[..lent].copy_from_slice(&starts[..lent]);
+    for i in 0..starts.len().min(32) {
+        all[i] = starts[i];
+    }
     all
 }
