@@ -10,7 +10,7 @@ use borrow.Author.Tests.{lt-ltb, ltb-false, ne_eqb}
 use Rattle.rules.specs.declared.Refusal.{Refusal}
 use Rattle.std.specs.Prelude.{Result, Ok, Err}
 use Rattle.rules.specs.declared.Salvage.{Salvage}
-use Rattle.rules.specs.Results.{counts_of, salvaged_by}
+use Rattle.rules.specs.Results.{counts_of}
 use Rattle.rules.specs.Chain.{accepted, is_accepted, ◌or_else◌, given, granted}
 use Rattle.rules.specs.Refusals.{check_board}
 use Rattle.rules.specs.File.{records_at, cores_in, tasks_in, form_in, encode, decode}
@@ -22,7 +22,7 @@ use Rattle.facts.proofs.Chain.{both-accepted, second_decides, no_fault, allowed,
 use Rattle.writer.specs.Answers.{Wrote}
 use Rattle.writer.proofs.Writing.{written_is}
 use Rattle.kept.proofs.Kept.{kept-most, salvaged-accepted}
-use Rattle.salvaging.specs.Front.{check_front, Salvages}
+use Rattle.salvaging.specs.Front.{check_front, salvaged_by, Salvages}
 
 module _ (s : List ℕ) where
   -- ---- 19, 17, then the board
