@@ -25,7 +25,8 @@ pub fn code(answered: Result<(), CarryRefusal>) -> u32
 {
     match answered {
         Ok(()) => 0,
-        Err(refused) => plain::code(Err(refused.refusal)) as u32 + 65536 * table_number(refused.faulty),
+        Err(refused) => plain::code(Err(refused.refusal)) as u32
+            + 65536 * table_number(refused.faulty),
     }
 }
 
@@ -43,7 +44,10 @@ pub fn carry_files(
 {
     let before = about(Faulty::Older, admit_file::read(older))?;
     let after = about(Faulty::Newer, admit_file::read(newer))?;
-    about(Faulty::Neither, after::store_after(before, after, bounds, rounds, by))
+    about(
+        Faulty::Neither,
+        after::store_after(before, after, bounds, rounds, by),
+    )
 }
 
 // Both files may be judged, and the newer is the older one worsened: then a judgement of the newer starts from the older bounds.
