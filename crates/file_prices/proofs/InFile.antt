@@ -1,17 +1,15 @@
 -- What is known of an accepted file, and the table that it is. Assumes nothing.
-use Prim.Native.Nat.{ℕ, ◌+◌, ◌-◌, ◌≤◌}
+use Prim.Native.Nat.{ℕ, ◌≤◌}
 use mathlib.Core.Path.{◌≡◌, refl}
 use mathlib.Core.Bool.{true}
 use mathlib.Core.List.{List}
-use native.Mathlib.Omega.{arith}
-use lib.ListN.{length, get_or}
-use Rattle.rules.specs.declared.Task.{Task}
-use Rattle.rules.specs.Tasks.{no_task, task_of}
+use lib.ListN.{length}
 use Rattle.rules.specs.Chain.{is_accepted}
-use Rattle.rules.specs.File.{cores_in, tasks_in, form_in, decode}
+use Rattle.rules.specs.File.{records_at, cores_in, tasks_in, form_in, decode}
 use Rattle.rules.specs.Operations.{check_file}
-use Rattle.fields.specs.Places.{sets_of, figures_in}
-use Rattle.file.proofs.Reading.{file_sized}
+use Rattle.fields.specs.Places.{Sized, sets_of, figures_in}
+use Rattle.fields.proofs.Steps.{sets_end}
+use Rattle.file.proofs.Reading.{file_sized, file_counts}
 
 module _ (s : List ℕ) where
   pub tasks_are : (decode s).tasks ≡ tasks_in s
@@ -34,10 +32,18 @@ module _ (s : List ℕ) where
   unfolding decode
   timing_is = refl
 
-  -- the task in a place, by its number
-  pub task_in_place : {task : Task} (i : ℕ) → task ≡ task_of (decode s) (i + 1) → task ≡ get_or (decode s).task i no_task
-  task_in_place i e = let less : i + 1 - 1 ≡ i = omega arith in rw less at e
+  -- every byte of the header is there, and of the sets, which have room in a table; and every record
+  module _ (e : is_accepted (check_file s) ≡ true) where
+    pub header : 46 ≤ length s
+    header = (file_sized s e).long
 
-  -- every byte of the header is there
-  pub header : is_accepted (check_file s) ≡ true → 46 ≤ length s
-  header e = (file_sized s e).long
+    pub few : cores_in s ≤ 8
+    few = (file_counts s e).0
+
+    pub sets-there : records_at (form_in s) (cores_in s) ≤ length s
+    sets-there = sets_end s (file_sized s e)
+
+    pub sized : Sized s
+    sized = file_sized s e
+
+pub ruleset known = (tasks_are, cores_are, fourth_is, sets_are, timing_is, header, few, sets-there, sized)

@@ -1,5 +1,5 @@
 // An accepted table file as a place where a table's figures stand: they are read from its bytes, and no table is made.
-#![tactic(auto)]
+#![tactic(auto, using(crate::proofs::InFile::known))]
 
 ghost use Rattle.std.specs.Prelude.{◌≡◌, true};
 ghost use Rattle.rules.specs.Chain.{is_accepted};

@@ -1,20 +1,15 @@
 -- Texts that are put one after the other are one text; and a text that fills a part of a buffer is put there. Assumes nothing.
 use mathlib.Core.Path.{◌≡◌, refl, ◌∙◌}
 use mathlib.Core.List.{List, [], ◌∷◌, ◌++◌, append_assoc}
-use Prim.Native.Nat.{ℕ, suc, ◌+◌, ◌-◌, ◌<◌, ◌≤◌}
+use Prim.Native.Nat.{ℕ, ◌+◌, ◌-◌, ◌<◌, ◌≤◌}
 use native.Mathlib.Omega.{arith}
-use native.Mathlib.Nat.{add-zero, zero-add}
+use native.Mathlib.Nat.{zero-add}
 use borrow.Rule.Slice.PartMut.{put_mid}
 use lib.ListN.{length, take, set, length-append}
-use lib.Seq.{sets, sets-eq, drop-drop, take-append_seam}
+use lib.Seq.{sets-eq, drop-drop, take-append_seam}
 use borrow.Author.Tests.{le-leb, lt-leb}
+use Rattle.laws.proofs.Runs.{sets-after}
 use Rattle.text.specs.Put.{Put, Given}
-
-sets-append : (l : List ℕ) (at : ℕ) (v w : List ℕ) → sets (sets l at v) (at + length v) w ≡ sets l at (v ++ w)
-sets-append l at [] w = rw add-zero
-sets-append l at (b ∷ v) w =
-    let e : at + suc (length v) ≡ suc at + length v = omega arith in
-    rw (e, sets-append (set l at b) (suc at) v w)
 
 pub nothing : (l : List ℕ) (at : ℕ) → Put l at [] at l
 nothing l at = record { ends = omega arith; bytes = refl }
@@ -27,7 +22,7 @@ infixl 5 ◌then◌
 pub ◌then◌ : {l m r : List ℕ} {at mid next : ℕ} {v w : List ℕ} → Put l at v mid m → Put m mid w next r → Put l at (v ++ w) next r
 ◌then◌ {l} {m} {r} {at} {mid} {next} {v} {w} p q = record {
   ends = omega (arith, p.ends, q.ends, length-append v w);
-  bytes = rw (q.bytes, p.bytes, p.ends, sets-append l at v w);
+  bytes = rw (q.bytes, p.bytes) (sets-after v w l at mid p.ends);
 }
 
 -- a part that is written whole and given back

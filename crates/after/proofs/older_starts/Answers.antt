@@ -3,9 +3,7 @@ use mathlib.Core.Path.{◌≡◌, ◌∙◌, ap}
 use native.Mathlib.Omega.{arith}
 use lib.ListN.{length}
 use lib.Seq.{take_all}
-use Rattle.rules.specs.Judgement.{misses}
 use Rattle.rules.specs.Operations.{answers_from, fresh}
-use Rattle.starts.proofs.Column.{column-none, column-next}
 use Rattle.facts.proofs.AllStarts.{all-fresh, answers-long, fresh-starts, bounds_of_answers}
 use Rattle.facts.proofs.Starts.{judged-accepted}
 use Rattle.facts.proofs.LentStarts.{answers-same}
@@ -21,17 +19,9 @@ all-long c = ap length (all-answers c) ∙ answers-long c.args.older (judged-acc
 pub answers-all-requires-clause-all_allowed : goal.answers-all-requires-clause-all_allowed
 answers-all-requires-clause-all_allowed c = all-fresh c.args.older (judged-accepted _ c.requires)
 
-pub loop-i-preserved : goal.loop-i-preserved
-loop-i-preserved c =
-    let long = all-long (goal.at.loop-i-preserved c).At-loop-i in
-    rw c.bound_of.ensures (column-next (misses 0) c.loop-i.invariant (omega arith) (omega arith))
-
 pub returns : goal.returns
 returns c =
     let l = c.loop-i in
     let e : l.i ≡ 32 = omega arith in
     let h = rw e at l.invariant.is in
     rw (← bounds_of_answers c.args.older, ← all-answers (goal.at.returns c).At-loop-i) (rw (take_all 32 l.starts (omega (arith, l.invariant.long)), take_all 32 c.answers-all.result (omega (arith, all-long (goal.at.returns c).At-loop-i))) at h)
-
-pub loop-i-init : goal.loop-i-init
-loop-i-init c = column-none

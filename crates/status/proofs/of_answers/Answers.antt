@@ -3,12 +3,9 @@ use mathlib.Core.Path.{◌≡◌, ◌∙◌, sym, ap}
 use mathlib.Core.Bool.{not}
 use Prim.Native.Nat.{◌+◌, ◌-◌}
 use native.Mathlib.Omega.{arith}
-use Rattle.laws.proofs.Every.{rest_all, rest-fails, rest-next, rest-done}
+use Rattle.laws.proofs.Every.{rest-fails, rest-next, rest-done}
 use Rattle.status.specs.Status.{held, all_hold}
 use Rattle.status.proofs.of_answers.Goals as goal
-
-pub loop-i-init : goal.loop-i-init
-loop-i-init c = rest_all _ _
 
 pub returns-then-is_miss : goal.returns-then-is_miss
 unfolding all_hold
