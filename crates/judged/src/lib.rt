@@ -20,5 +20,5 @@ pub fn judge_file(
 {
     admit_file::check(file)?;
     let judged = verdicts::judge_accepted(file, plain::all_starts(starts));
-    outcome::store(judged, places::size(file[2]), bounds, rounds, by)
+    outcome::store(judged, usize::from(file[2]), bounds, rounds, by)
 }

@@ -4,6 +4,7 @@
 ghost use Rattle.std.specs.Prelude.{◌≡◌, ◌≤◌};
 ghost use Rattle.recarry.specs.Files.{granted_carry, refusal_carried, carry_refusal, CarriedFiles, files_worsen, table_number, carry_code};
 
+use rejudge::about;
 use rules::{CarryRefusal, Faulty};
 
 // Which of the two, as C has it.
@@ -24,7 +25,8 @@ pub fn code(answered: Result<(), CarryRefusal>) -> u32
 {
     match answered {
         Ok(()) => 0,
-        Err(refused) => plain::code(Err(refused.refusal)) as u32 + 65536 * table_number(refused.faulty),
+        Err(refused) => plain::code(Err(refused.refusal)) as u32
+            + 65536 * table_number(refused.faulty),
     }
 }
 
@@ -40,18 +42,12 @@ pub fn carry_files(
     ensures value { result ≡ granted_carry (carry_refusal older.now newer.now bounds.old rounds.old by.old) tt }
     ensures carried_files { CarriedFiles older.now newer.now bounds.old rounds.old by.old bounds.new rounds.new by.new }
 {
-    let before = admit_file::read(older).map_err(|refusal| CarryRefusal {
-        refusal,
-        faulty: Faulty::Older,
-    })?;
-    let after = admit_file::read(newer).map_err(|refusal| CarryRefusal {
-        refusal,
-        faulty: Faulty::Newer,
-    })?;
-    after::store_after(before, after, bounds, rounds, by).map_err(|refusal| CarryRefusal {
-        refusal,
-        faulty: Faulty::Neither,
-    })
+    let before = about(Faulty::Older, admit_file::read(older))?;
+    let after = about(Faulty::Newer, admit_file::read(newer))?;
+    about(
+        Faulty::Neither,
+        after::store_after(before, after, bounds, rounds, by),
+    )
 }
 
 // Both files may be judged, and the newer is the older one worsened: then a judgement of the newer starts from the older bounds.

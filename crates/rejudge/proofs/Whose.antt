@@ -34,6 +34,16 @@ module _ {A : Type 0} (which : Faulty) (a : Refusal) (x : A) {r : Result A Refus
       go true p q = absurd cc
       go false p q = (p, cc)
 
+-- and in one, as the answer to two files is told
+pub about_granted : {A : Type 0} (which : Faulty) (a : Refusal) (x : A) {r : Result A Refusal} → r ≡ granted a x
+    → about which r ≡ cond (is_accepted a) (Ok x) (Err (record { refusal = a; faulty = which }))
+unfolding about granted
+about_granted which a x is = ap (about which) is ∙ go (is_accepted a)
+  where
+    go : (b : Bool) → about which (cond b (Ok x) (Err a)) ≡ cond b (Ok x) (Err (record { refusal = a; faulty = which }))
+    go true = refl
+    go false = refl
+
 -- where code passes it on by `?`
 pub returned-on : {A : Type 0} (r : Result A CarryRefusal) {d : CarryRefusal} → IsErrAnd r (λ e. e ≡ d) → r ≡ Err d
 returned-on r h = let p = err_from_is_err_and r h in rw (p.1, p.2)

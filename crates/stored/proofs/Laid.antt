@@ -11,7 +11,8 @@ use borrow.Author.Tests.{ltb-false}
 use Rattle.rules.specs.declared.Answer.{Answer}
 use Rattle.rules.specs.declared.Refusal.{Refusal}
 use Rattle.rules.specs.Judgement.{misses}
-use Rattle.rules.specs.Chain.{accepted, is_accepted}
+use Rattle.rules.specs.Chain.{accepted, is_accepted, granted, refusal_of}
+use Rattle.facts.proofs.Chain.{number_of}
 use Rattle.laws.proofs.Tests.{or_neither}
 use Rattle.stored.specs.Stored.{short, laid_over, bound_in, rounds_in, by_in, Stored}
 
@@ -44,6 +45,15 @@ module _ {A : Type 0} (f : A → ℕ) (l : List A) (i : ℕ) (out : List ℕ) wh
 -- where something is refused nothing changes
 pub unchanged : {r : Refusal} {answers : List Answer} {bounds rounds by : List ℕ} → is_accepted r ≡ false → Stored r answers bounds rounds by bounds rounds by
 unchanged e = record { bounds_are = rw e; rounds_are = rw e; by_are = rw e }
+
+-- what is stored by the refusal that an answer has is so by the refusal that it is made of
+pub stored-by : {A : Type 0} (r : Refusal) (x : A) {answers : List Answer} {bounds rounds by bounds' rounds' by' : List ℕ}
+    → Stored (refusal_of (granted r x)) answers bounds rounds by bounds' rounds' by' → Stored r answers bounds rounds by bounds' rounds' by'
+stored-by r x so = record {
+  bounds_are = rw (number_of r x) at so.bounds_are;
+  rounds_are = rw (number_of r x) at so.rounds_are;
+  by_are = rw (number_of r x) at so.by_are;
+}
 
 -- each has room, and the first i answers are in it
 pub record Storing (answers : List Answer) (i : ℕ) (bounds rounds by bounds' rounds' by' : List ℕ) : Type 0 where
