@@ -15,7 +15,7 @@ use rules::Picos;
 fn slot(row: [u16; 15]) -> Picos
     ensures { (result ≡ slot_in row) × (result.0 ≤ 65535) }
 {
-    Picos(row[0] as u64)
+    Picos(u64::from(row[0]))
 }
 
 // What one request of core q costs a job of core p: a turn, unless it is the same core.

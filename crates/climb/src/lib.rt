@@ -24,7 +24,7 @@ pub fn settle(own: Own, tasks: &Grouped, given: u64) -> Option<Answer>
     let mut t = lowest(own).max(given);
     let mut n: u64 = 1;
     loop {
-        let next = terms::apply(own, tasks, t);
+        let next = terms::apply(&own, tasks, t);
         if next.time == t {
             return Some(Answer {
                 verdict: Verdict::Holds(Picos(t), next.by),

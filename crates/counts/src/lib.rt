@@ -8,6 +8,7 @@ ghost use Rattle.counts.specs.Counts.{no_tasks, released, later_of, Summed, Slot
 use releases::Inverse;
 
 // The figures of tasks, core after core: T with an inverse of it, C and H. Those of the core in place q stand in places begins[q] to begins[q + 1].
+// Columns and no array of records: each sum (`asked_by`) is of the periods and one cost, and every contract would map records to the two.
 #[derive(Drop)]
 pub struct Grouped {
     pub begins: [usize; 9],

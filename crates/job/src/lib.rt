@@ -23,10 +23,10 @@ fn charged(a: usize, e: usize, tasks: &Grouped, weight: u64, t: u64) -> u64
 }
 
 // Job from its floor, or as much of it as is no less than request. At time 0 only the jobs carried in count: one of each task, where the floor has two.
-pub fn reached(others: Others, request: u64, tasks: &Grouped, t: u64) -> u64
+pub fn reached(others: &Others, request: u64, tasks: &Grouped, t: u64) -> u64
     requires t_bound { t ≤ 10 ^ 12 }
-    requires groups { Groups others tasks.now.begins tasks.now.periods tasks.now.requests }
-    ensures { Reached request (job_by others tasks.now.begins tasks.now.periods tasks.now.requests t) result }
+    requires groups { Groups others.now tasks.now.begins tasks.now.periods tasks.now.requests }
+    ensures { Reached request (job_by others.now tasks.now.begins tasks.now.periods tasks.now.requests t) result }
 {
     let mut sum = others.floor.0;
     if t == 0 {

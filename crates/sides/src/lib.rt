@@ -42,7 +42,7 @@ fn sides_of(cores: usize, sets: &[u16; 8], p: usize) -> Sides
     Sides { near, far }
 }
 
-// Those of each core.
+// Those of each core, near and far apart: `weights` reads one core's near ones, and the far ones of all.
 pub fn all_sides(cores: usize, sets: &[u16; 8], near: &mut [u8; 8], far: &mut [u8; 8])
     requires cores_bound { cores ≤ 8 }
     requires near_value { (near.old ≡ replicate 8 0) × (far.old ≡ replicate 8 0) }

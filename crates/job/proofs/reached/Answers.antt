@@ -14,7 +14,7 @@ loop-q-preserved c = added_next c.requires.groups c.loop-q.invariant (c.requires
 
 pub returns : goal.returns
 returns c =
-    let last : c.loop-q.q ≡ c.args.others.cores = omega arith in
+    let last : c.loop-q.q ≡ c.args.others.now.cores = omega arith in
     reached-all c.requires.groups (search rules) (rw last at c.loop-q.invariant)
 
 pub loop-q-init : goal.loop-q-init
