@@ -86,7 +86,7 @@ unfolding decode
 zero_no_tasks s e = go (ℕ_discrete (check_file s).number 0)
   where
     go : Dec ((check_file s).number ≡ 0) → is_accepted (check_file s) ≡ false
-    go (yes passes) = absurd (omega (arith, tasks-there s passes, (sound (decode s) (decoded_accepted s (eq-eqb _ _ passes))).tasks-in.low))
+    go (yes passes) = absurd (omega (arith, tasks-there s (eq-eqb _ _ passes), (sound (decode s) (decoded_accepted s (eq-eqb _ _ passes))).tasks-in.low))
     go (no refused) = ne_eqb _ _ refused
 
 -- ryb_record: the view is refused, as no record starts there
@@ -94,7 +94,7 @@ pub zero_no_record : (s : List ℕ) (k : ℕ) → record_place s k ≡ 0 → is_
 zero_no_record s k e = go (ℕ_discrete (check_view s k).number 0)
   where
     go : Dec ((check_view s k).number ≡ 0) → is_accepted (check_view s k) ≡ false
-    go (yes passes) = absurd (omega (arith, record_there s k passes, after-sets (form_in s) (cores_in s) k, sets-limit (form_in s)))
+    go (yes passes) = absurd (omega (arith, record_there s k (eq-eqb _ _ passes), after-sets (form_in s) (cores_in s) k, sets-limit (form_in s)))
     go (no refused) = ne_eqb _ _ refused
 
 -- ryb_list: the listing does not fit, as none is empty

@@ -7,7 +7,6 @@ use Rattle.rules.specs.declared.Answer.{Answer}
 use Rattle.rules.specs.declared.Salvage.{Salvage}
 use Rattle.rules.specs.declared.Rejudgement.{Rejudgement}
 use Rattle.rules.specs.declared.CarryRefusal.{CarryRefusal}
-use Rattle.rules.specs.Results.{salvaged_by}
 use Rattle.rules.specs.Chain.{granted}
 use Rattle.rules.specs.Order as Order
 use Rattle.rules.specs.Timing as Timing
@@ -26,7 +25,7 @@ use Rattle.text.specs.Put.{Given}
 use Rattle.plain.specs.Codes.{code_of, salvage_code}
 use Rattle.judged.specs.JudgedFile.{check_judged_file, JudgedFile}
 use Rattle.recarry.specs.Files.{carry_refusal, granted_carry, refusal_carried, carry_code, CarriedFiles, files_worsen}
-use Rattle.salvaging.specs.Front.{Salvages}
+use Rattle.salvaging.specs.Front.{salvaged_by, Salvages}
 use Rattle.reasons.specs.Reasons.{reason_text}
 use Rattle.pieces.specs.Pieces.{piece_of}
 use Rattle.shown.specs.Shown.{task_count, record_place}
