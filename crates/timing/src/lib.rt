@@ -7,7 +7,7 @@ ghost use Rattle.rules.specs.Chain.{first};
 ghost use Rattle.rules.specs.Refusals.{relation_fault, check_timing, bus_fault, check_bus};
 
 use basics::refused;
-use cycles::figure;
+use cycles::{Timing, figure};
 use ranges::check_ranges;
 use rules::Refusal;
 
@@ -33,19 +33,19 @@ fn relation_fault(row: [u16; 15], k: u8) -> bool
     ensures { result ≡ relation_fault row k }
 {
     if k == 1 {
-        return figure(row, cycles::TWR) < figure(row, cycles::TWTR);
+        return figure(row, Timing::Twr) < figure(row, Timing::Twtr);
     }
     if k == 2 {
-        return cycles::turn(row) < figure(row, cycles::CL);
+        return cycles::turn(row) < figure(row, Timing::Cl);
     }
     if k == 3 {
-        return figure(row, cycles::CL) + figure(row, cycles::BL) / 2 + 2
-            <= figure(row, cycles::TRTP);
+        return figure(row, Timing::Cl) + figure(row, Timing::Bl) / 2 + 2
+            <= figure(row, Timing::Trtp);
     }
     if k == 4 {
-        return figure(row, cycles::TRCD) + hits::hit(row).0 <= figure(row, cycles::TRAS);
+        return figure(row, Timing::Trcd) + hits::hit(row).0 <= figure(row, Timing::Tras);
     }
-    remainder(figure(row, cycles::NCOLS), figure(row, cycles::BL)) != 0
+    remainder(figure(row, Timing::Ncols), figure(row, Timing::Bl)) != 0
 }
 
 // Refusal 7 (RULES 9.3), with the first relation at fault.
