@@ -2,43 +2,27 @@
 #![tactic(auto)]
 
 ghost use Rattle.std.specs.Prelude.{◌≡◌};
+ghost use Rattle.rules.specs.Chain.{granted};
 ghost use Rattle.rules.specs.Refusals.{check_judged, check_start};
 
-use basics::refused;
+use basics::outside;
+use chain::refuse_if;
 use rules::{Picos, Refusal, Table};
 
 // The checks before every judgement: those of the table, then 18.
-pub fn table(t: Table) -> Refusal
-    ensures { result ≡ check_judged t }
+pub fn table(t: Table) -> Result<(), Refusal>
+    ensures { result ≡ granted (check_judged t) tt }
 {
-    let refusal = checks::check(t);
-    if refusal.number != 0 {
-        return refusal;
-    }
-    if basics::says_salvaged(t.fourth) {
-        return refused(18, 0);
-    }
-    refused(0, 0)
+    checks::check(t)?;
+    refuse_if(basics::says_salvaged(t.fourth), 18, 0)
 }
 
 // Those before a judgement of one task: then 12 and 13.
-pub fn start(t: Table, k: u8, start: Picos) -> Refusal
-    ensures { result ≡ check_start t k start.0 }
+pub fn start(t: Table, k: u8, start: Picos) -> Result<(), Refusal>
+    ensures { result ≡ granted (check_start t k start.0) tt }
 {
-    let refusal = table(t);
-    if refusal.number != 0 {
-        return refusal;
-    }
-    if k == 0 {
-        return refused(12, 0);
-    }
-    if t.tasks < k {
-        return refused(12, 0);
-    }
-    let i = (k as usize) - 1;
-    let task = t.task[i];
-    if basics::latest(task) < start.0 {
-        return refused(13, k);
-    }
-    refused(0, 0)
+    table(t)?;
+    refuse_if(outside(1, t.tasks as u64, k as u64), 12, 0)?;
+    let task = t.task[k as usize - 1];
+    refuse_if(basics::latest(task) < start.0, 13, k)
 }

@@ -1,29 +1,28 @@
--- What code knows of a file that it read to judge it, by the refusal that came with the table. Assumes nothing.
-use mathlib.Core.Path.{◌≡◌, ap, ◌∙◌}
+-- What code knows of a file that it read to judge it, by the answer. Assumes nothing.
+use mathlib.Core.Path.{◌≡◌, sym, ◌∙◌}
 use mathlib.Core.Bool.{true, false}
 use mathlib.Core.List.{List}
 use Prim.Native.Nat.{ℕ}
-use Rattle.rules.specs.declared.Read.{Read}
-use Rattle.rules.specs.Chain.{is_accepted}
+use Rattle.std.specs.Prelude.{Ok, Err}
+use Rattle.rules.specs.declared.Refusal.{Refusal}
+use Rattle.rules.specs.declared.Table.{Table}
+use Rattle.rules.specs.Chain.{is_accepted, granted}
 use Rattle.rules.specs.Refusals.{check_judged}
 use Rattle.rules.specs.File.{decode}
 use Rattle.rules.specs.Operations.{check_to_judge, read_to_judge}
-use Rattle.facts.proofs.Chain.{passes, refuses}
-use Rattle.facts.proofs.ToJudge.{refusal_to_judge, judged-table, table_to_judge}
+use Rattle.facts.proofs.Chain.{was-allowed, was-denied}
+use Rattle.facts.proofs.ToJudge.{judged-table, read-to_judge_is}
 
-module _ (s : List ℕ) {r : Read} (is : r ≡ read_to_judge s) where
-  pub refusal_of : r.refusal ≡ check_to_judge s
-  refusal_of = ap (λ (x : Read). x.refusal) is ∙ refusal_to_judge s
+module _ (s : List ℕ) where
+  pub not_accepted : {d : Refusal} → Err d ≡ granted (read_to_judge s).refusal (read_to_judge s).table → (is_accepted (check_to_judge s) ≡ false) × (check_to_judge s ≡ d)
+  not_accepted e = was-denied (check_to_judge s) (decode s) (sym (e ∙ read-to_judge_is s))
 
-  pub not_accepted : (r.refusal.number ≡ 0 → ⊥) → is_accepted (check_to_judge s) ≡ false
-  not_accepted = refuses refusal_of
-
-  module _ (passed : r.refusal.number ≡ 0) where
+  module _ {t : Table} (e : Ok t ≡ granted (read_to_judge s).refusal (read_to_judge s).table) where
     pub was-accepted : is_accepted (check_to_judge s) ≡ true
-    was-accepted = passes refusal_of passed
+    was-accepted = (was-allowed (check_to_judge s) (decode s) (sym (e ∙ read-to_judge_is s))).0
 
-    pub table_of : r.table ≡ decode s
-    table_of = ap (λ (x : Read). x.table) is ∙ table_to_judge s was-accepted
+    pub table_of : t ≡ decode s
+    table_of = sym (was-allowed (check_to_judge s) (decode s) (sym (e ∙ read-to_judge_is s))).1
 
-    pub table-judged : is_accepted (check_judged r.table) ≡ true
+    pub table-judged : is_accepted (check_judged t) ≡ true
     table-judged = rw table_of (judged-table s was-accepted)

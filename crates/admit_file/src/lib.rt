@@ -2,39 +2,26 @@
 #![tactic(auto)]
 
 ghost use Rattle.std.specs.Prelude.{◌≡◌};
+ghost use Rattle.rules.specs.Chain.{granted};
 ghost use Rattle.rules.specs.Operations.{check_to_judge, read_to_judge};
 
-use basics::refused;
-use rules::{Read, Refusal};
+use basics::says_salvaged;
+use chain::refuse_if;
+use rules::{Refusal, Table};
 
 // The refusal alone.
-pub fn check(file: &[u8]) -> Refusal
-    ensures { result ≡ check_to_judge file.now }
+pub fn check(file: &[u8]) -> Result<(), Refusal>
+    ensures { result ≡ granted (check_to_judge file.now) tt }
 {
-    let refusal = file::check(file);
-    if refusal.number != 0 {
-        return refusal;
-    }
-    if basics::says_salvaged(file[3]) {
-        return refused(18, 0);
-    }
-    refused(0, 0)
+    file::check(file)?;
+    refuse_if(says_salvaged(file[3]), 18, 0)
 }
 
-// With the table, which is all zero where it is not to be judged.
-pub fn read(file: &[u8]) -> Read
-    ensures { result ≡ read_to_judge file.now }
+// With the table, which is given only where it is to be judged.
+pub fn read(file: &[u8]) -> Result<Table, Refusal>
+    ensures { result ≡ granted (read_to_judge file.now).refusal (read_to_judge file.now).table }
 {
-    let read = file::read(file);
-    if read.refusal.number != 0 {
-        return read;
-    }
-    let table = read.table;
-    if basics::says_salvaged(table.fourth) {
-        return file::read_nothing(refused(18, 0));
-    }
-    Read {
-        refusal: refused(0, 0),
-        table,
-    }
+    let table = file::read(file)?;
+    refuse_if(says_salvaged(table.fourth), 18, 0)?;
+    Ok(table)
 }

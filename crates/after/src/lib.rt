@@ -3,7 +3,7 @@
 
 ghost use Rattle.std.specs.Prelude.{◌≡◌, true, take};
 ghost use Rattle.laws.specs.Idioms.{entry};
-ghost use Rattle.rules.specs.Chain.{is_accepted};
+ghost use Rattle.rules.specs.Chain.{is_accepted, granted, refusal_of};
 ghost use Rattle.rules.specs.Refusals.{check_judged};
 ghost use Rattle.rules.specs.Order.{worsens};
 ghost use Rattle.rules.specs.Operations.{answers_from, rejudging, older_bounds};
@@ -18,9 +18,7 @@ fn answers(table: Table, starts: [u64; 32]) -> [Answer; 32]
     requires all_allowed { AllAllowed table starts }
     ensures { result ≡ answers_from table (entry 0 starts) }
 {
-    let judged = columns::judge_tasks(table, starts);
-    let all = judged.answers;
-    all
+    columns::judge_tasks(table, starts).unwrap()
 }
 
 // RULES 6.5: the starts that the older table gives.
@@ -28,15 +26,10 @@ fn older_starts(older: Table) -> [u64; 32]
     requires { is_accepted (check_judged older) ≡ true }
     ensures { result ≡ older_bounds older }
 {
-    let fresh = [0u64; 32];
-    let all = answers(older, fresh);
+    let all = answers(older, [0; 32]);
     let mut starts = [0u64; 32];
-    let mut i: usize = 0;
-    while i < 32 {
-        let answer = all[i];
-        let verdict = answer.verdict;
-        starts[i] = plain::bound_of(verdict);
-        i += 1;
+    for i in 0..32 {
+        starts[i] = plain::bound_of(all[i].verdict);
     }
     starts
 }
@@ -49,11 +42,9 @@ pub fn answers_after(older: Table, newer: Table, carried: bool) -> [Answer; 32]
     ensures { result ≡ (rejudging older newer).answers }
 {
     if carried {
-        let starts = older_starts(older);
-        return answers(newer, starts);
+        return answers(newer, older_starts(older));
     }
-    let fresh = [0u64; 32];
-    answers(newer, fresh)
+    answers(newer, [0; 32])
 }
 
 // The answers of two tables that may be judged into the outputs; 255 where one is too short for them, and nothing changes.
@@ -63,13 +54,13 @@ pub fn store_after(
     bounds: &mut [u64],
     rounds: &mut [u64],
     by: &mut [u8],
-) -> Refusal
+) -> Result<(), Refusal>
     requires older_value { is_accepted (check_judged older) ≡ true }
     requires newer_value { is_accepted (check_judged newer) ≡ true }
-    ensures value { result ≡ check_outputs newer.tasks bounds.old rounds.old by.old }
-    ensures stored { Stored result (take newer.tasks (rejudging older newer).answers) bounds.old rounds.old by.old bounds.new rounds.new by.new }
+    ensures value { result ≡ granted (check_outputs newer.tasks bounds.old rounds.old by.old) tt }
+    ensures stored { Stored (refusal_of result) (take newer.tasks (rejudging older newer).answers) bounds.old rounds.old by.old bounds.new rounds.new by.new }
 {
     let n = newer.tasks as usize;
     let answers = answers_after(older, newer, order::worsens(older, newer));
-    stored::store_answers(answers, n, bounds, rounds, by)
+    stored::store_answers(&answers[..n], bounds, rounds, by)
 }

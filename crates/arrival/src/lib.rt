@@ -2,40 +2,36 @@
 #![tactic(auto)]
 
 ghost use Rattle.std.specs.Prelude.{◌≡◌, ◌≤◌, length};
+ghost use Rattle.rules.specs.Chain.{granted};
 ghost use Rattle.rules.specs.File.{check_whole, check_trailer};
 
+use chain::refuse_if;
 use rules::Refusal;
 
 // 3 and 4, of a file that has the right length.
-fn trailer(file: &[u8]) -> Refusal
+fn trailer(file: &[u8]) -> Result<(), Refusal>
     requires in_bounds { 12 ≤ length file.now }
     requires file_len_bound { length file.now ≤ 65536 }
-    ensures { result ≡ check_trailer file.now }
+    ensures { result ≡ granted (check_trailer file.now) tt }
 {
     let n = file.len();
     let e = n - 12;
-    if lent_bytes::le32(file, e) as usize != e {
-        return basics::refused(3, 0);
-    }
+    refuse_if(lent_bytes::le32(file, e) as usize != e, 3, 0)?;
     let total = sums::sums(&file[..e]);
-    if lent_bytes::le32(file, n - 8) as u64 != total.sum {
-        return basics::refused(4, 0);
-    }
-    if lent_bytes::le32(file, n - 4) as u64 != total.running {
-        return basics::refused(4, 0);
-    }
-    basics::refused(0, 0)
+    let sum_differs = lent_bytes::le32(file, n - 8) as u64 != total.sum;
+    let running_differs = lent_bytes::le32(file, n - 4) as u64 != total.running;
+    refuse_if(sum_differs || running_differs, 4, 0)
 }
 
 // 1 to 4.
-pub fn whole(file: &[u8]) -> Refusal
-    ensures { result ≡ check_whole file.now }
+pub fn whole(file: &[u8]) -> Result<(), Refusal>
+    ensures { result ≡ granted (check_whole file.now) tt }
 {
-    if file.len() < 46 {
-        return basics::refused(1, 0);
-    }
-    if file.len() != places::file_length(file[3], file[0], file[2]) {
-        return basics::refused(2, 0);
-    }
+    refuse_if(file.len() < 46, 1, 0)?;
+    refuse_if(
+        file.len() != places::file_length(file[3], file[0], file[2]),
+        2,
+        0,
+    )?;
     trailer(file)
 }

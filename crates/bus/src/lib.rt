@@ -15,7 +15,7 @@ use rules::Picos;
 fn slot(row: [u16; 15]) -> Picos
     ensures { (result ≡ slot_in row) × (result.0 ≤ 65535) }
 {
-    Picos(row[0] as u64)
+    Picos(u64::from(row[0]))
 }
 
 // What one request of core q costs a job of core p: a turn, unless it is the same core.
@@ -32,10 +32,8 @@ fn costs(cores: usize, p: usize, s: Picos) -> CoreCosts
 {
     let free = Picos(0);
     let mut weight = [free; 8];
-    let mut q: usize = 0;
-    while q < cores {
+    for q in 0..cores {
         weight[q] = price(p, q + 1, s);
-        q += 1;
     }
     let request = Picos((cores as u64 - 1) * s.0);
     CoreCosts { request, weight }
@@ -47,12 +45,5 @@ pub fn all_costs(cores: usize, row: [u16; 15]) -> [CoreCosts; 8]
     ensures { (t : Table) → t.cores ≡ cores → t.timing ≡ row → result ≡ each_costs t.cores (bus_prices t) }
 {
     let s = slot(row);
-    let none = prices::no_costs();
-    let mut all = [none; 8];
-    let mut p: usize = 0;
-    while p < cores {
-        all[p] = costs(cores, p + 1, s);
-        p += 1;
-    }
-    all
+    prices::each_core(cores, |p| costs(cores, p, s))
 }

@@ -2,22 +2,24 @@
 #![tactic(auto)]
 
 ghost use Rattle.std.specs.Prelude.{◌≡◌};
+ghost use Rattle.rules.specs.Chain.{granted};
 ghost use Rattle.rules.specs.Refusals.{check_row, board_refusal, check_board, check_table};
 
-use basics::refused;
+use chain::refuse_if;
 use rules::{Refusal, Table};
 
 // 6 and 7, or 16: the timing figures, by the table's kind.
-fn check_row(fourth: u8, row: [u16; 15]) -> Refusal
-    ensures { result ≡ check_row fourth row }
+fn check_row(fourth: u8, row: [u16; 15]) -> Result<(), Refusal>
+    ensures { result ≡ granted (check_row fourth row) tt }
 {
     if basics::says_bus(fourth) {
-        return timing::check_bus(row);
+        timing::check_bus(row)
+    } else {
+        timing::check(row)
     }
-    timing::check(row)
 }
 
-// 5 to 8 and 16: the board, by its counts, its timing figures and its sets.
+// 5 to 8 and 16: the board, by its counts, its timing figures and its sets. A struct of the six would be made of a table or of a file's bytes, and taken apart here.
 pub fn board_refusal(
     cores: u8,
     partitions: u8,
@@ -25,34 +27,24 @@ pub fn board_refusal(
     fourth: u8,
     row: [u16; 15],
     sets: &[u16; 8],
-) -> Refusal
-    ensures { result ≡ board_refusal cores partitions tasks fourth row sets.now }
+) -> Result<(), Refusal>
+    ensures { result ≡ granted (board_refusal cores partitions tasks fourth row sets.now) tt }
 {
-    if limits::counts_fault(cores, partitions, tasks, fourth) {
-        return refused(5, 0);
-    }
-    let figures = check_row(fourth, row);
-    if figures.number != 0 {
-        return figures;
-    }
+    refuse_if(limits::counts_fault(cores, partitions, tasks, fourth), 5, 0)?;
+    check_row(fourth, row)?;
     limits::check_sets(cores, partitions, sets)
 }
 
-pub fn check_board(t: Table) -> Refusal
-    ensures { result ≡ check_board t }
+pub fn check_board(t: Table) -> Result<(), Refusal>
+    ensures { result ≡ granted (check_board t) tt }
 {
-    let row = t.timing;
-    let sets = t.sets;
-    board_refusal(t.cores, t.partitions, t.tasks, t.fourth, row, &sets)
+    board_refusal(t.cores, t.partitions, t.tasks, t.fourth, t.timing, &t.sets)
 }
 
 // 5 to 11 and 16: what a table passed directly meets (RULES 9.4).
-pub fn check(t: Table) -> Refusal
-    ensures { result ≡ check_table t }
+pub fn check(t: Table) -> Result<(), Refusal>
+    ensures { result ≡ granted (check_table t) tt }
 {
-    let board = check_board(t);
-    if board.number != 0 {
-        return board;
-    }
+    check_board(t)?;
     tasks::check(t)
 }

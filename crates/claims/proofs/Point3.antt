@@ -10,7 +10,7 @@ use Rattle.equation.proofs.Run.{start_fits}
 use Rattle.rules.specs.declared.Table.{Table}
 use Rattle.rules.specs.declared.Answer.{Answer}
 use Rattle.rules.specs.declared.Refusal.{Refusal}
-use Rattle.rules.specs.declared.Judged.{Judged}
+use Rattle.rules.specs.Results.{Judged}
 use Rattle.rules.specs.declared.Delay.{Delay}
 use Rattle.rules.specs.declared.Delay.TheVariants.{Request}
 use Rattle.rules.specs.declared.Verdict.TheVariants.{Holds}

@@ -2,7 +2,7 @@
 use mathlib.Core.Path.{◌≡◌, refl, ap}
 use mathlib.Core.Bool.{Bool, true, false}
 use Rattle.rules.specs.declared.Table.{Table}
-use Rattle.rules.specs.declared.Read.{Read}
+use Rattle.rules.specs.Results.{Read}
 use Rattle.rules.specs.Chain.{is_accepted}
 use Rattle.rules.specs.Refusals.{check_judged}
 use Rattle.rules.specs.Operations.{viewing, writing, out_after, judge_one, judge_all, check_both, faulty_of, is_carried, rejudging}

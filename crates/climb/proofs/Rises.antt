@@ -1,7 +1,6 @@
 -- The equation of one task's terms is one of the theory's; what the loop keeps; and the answer is that of its rounds. Assumes nothing.
 use mathlib.Core.Path.{◌≡◌, refl, ap}
 use mathlib.Core.Logic.{◌≢◌}
-use mathlib.Core.Bool.{true, false}
 use mathlib.Core.List.{List}
 use Prim.Native.Nat.{ℕ, ◌+◌, ◌≤◌, ◌<◌, max}
 use native.Mathlib.Nat.{mul-le-mul_left, le_refl}
@@ -9,6 +8,7 @@ use native.Mathlib.Decide.{dec_le}
 use native.Mathlib.Omega.{arith}
 use lib.ListN.{get_or}
 use borrow.Author.Tests.{lt-ltb, le-ltb}
+use Rattle.std.specs.Prelude.{Some, None}
 use Rattle.equation.specs.Equation.{Equation}
 use Rattle.equation.specs.Outcome.{Outcome}
 use Rattle.equation.specs.Rounds.{Rounds}
@@ -18,13 +18,12 @@ use Rattle.equation.proofs.Solve.{solve-only}
 use Rattle.equation.proofs.Loop.{Round, starts, Midway, midway-next, midway-holds, midway-misses}
 use Rattle.rules.specs.declared.Verdict.TheVariants.{Holds, Misses}
 use Rattle.rules.specs.Units.{ps}
-use Rattle.rules.specs.Judgement.{misses, with_delay}
+use Rattle.rules.specs.Judgement.{with_delay}
 use Rattle.counts.proofs.Sums.{asked_mono}
 use Rattle.floors.proofs.Weighed.{weighed_mono}
 use Rattle.job.specs.Job.{arrived_on, job_by}
 use Rattle.terms.specs.Terms.{Terms, above_of, request_of, job_of, time_of, by_of, applied}
 use Rattle.terms.specs.declared.Applied.{Applied}
-use Rattle.climb.specs.declared.Climbed.{Climbed}
 use Rattle.climb.specs.Run.{lowest_of, start_from, Ready, answer_of, is_high, climbed}
 
 module _ (t u : ℕ) (h : t ≤ u) (m : Terms) where
@@ -86,7 +85,7 @@ module _ (m : Terms) (given : ℕ) {start : ℕ} (ok : Ready m given) (raised : 
   allowed up = record { given = ok.given-high; rises = λ fits. rw raised at up }
 
   answer_is : start ≤ time_of m start → {v : Outcome} {n : ℕ} → Rounds (time_of m) m.own.latest start v n
-      → ◌≡◌ {A = Climbed} (record { high = false; answer = record { verdict = with_delay (by_of m) v; rounds = n } }) (climbed m given)
+      → Some (record { verdict = with_delay (by_of m) v; rounds = n }) ≡ climbed m given
   unfolding climbed is_high answer_of
   answer_is up {v} {n} k =
       let run : Rounds (time_of m) m.own.latest (max (lowest_of m.own) given) v n = rw raised at k in
@@ -113,14 +112,14 @@ module _ (m : Terms) (given : ℕ) {start : ℕ} (ok : Ready m given) (raised : 
         record { round = going.round; applied = time-here; rises = up; fits = going.fits; few = going.few; some = going.some }
 
     pub last-holds : a.time ≡ t
-        → ◌≡◌ {A = Climbed} (record { high = false; answer = record { verdict = Holds (ps t) a.by; rounds = n } }) (climbed m given)
+        → Some (record { verdict = Holds (ps t) a.by; rounds = n }) ≡ climbed m given
     last-holds e = rw (by_is m t is) (answer_is (up_first (omega arith)) (midway-holds (midway (omega arith)) e))
 
     pub last-misses : t ≤ a.time → m.own.latest < a.time
-        → ◌≡◌ {A = Climbed} (record { high = false; answer = record { verdict = Misses; rounds = n } }) (climbed m given)
+        → Some (record { verdict = Misses; rounds = n }) ≡ climbed m given
     last-misses up q = answer_is (up_first up) (midway-misses (midway up) q)
 
-    pub lowered : a.time < t → ◌≡◌ {A = Climbed} (record { high = true; answer = misses 0 }) (climbed m given)
+    pub lowered : a.time < t → None ≡ climbed m given
     unfolding climbed is_high
     lowered down = rw (lt-ltb _ _ (rw raised at (go (dec_le start (time_of m start)))))
       where

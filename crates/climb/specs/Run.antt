@@ -1,10 +1,9 @@
 -- What the rounds of one task's terms give from a start. Assumes nothing.
-use Rattle.std.specs.Prelude.{ℕ, ◌≤◌, ◌^◌, max, Bool, cond, ltb}
+use Rattle.std.specs.Prelude.{ℕ, ◌≤◌, ◌^◌, max, Bool, cond, ltb, Option, None, Some}
 use Rattle.equation.specs.Rounds as rounds
 use Rattle.rules.specs.declared.Answer.{Answer}
-use Rattle.rules.specs.Judgement.{misses, with_delay}
+use Rattle.rules.specs.Judgement.{with_delay}
 use Rattle.terms.specs.declared.Own.{Own}
-use Rattle.climb.specs.declared.Climbed.{Climbed}
 use Rattle.terms.specs.Terms.{Terms, time_of, by_of, Fair}
 
 -- the lowest start
@@ -25,15 +24,9 @@ answer_of m given =
 unfoldable pub is_high : Terms → ℕ → Bool
 is_high m given = ltb (time_of m (start_from m given)) (start_from m given)
 
--- a miss, or no rounds at all
-abbrev pub ended_as : Bool → ℕ → Climbed
-ended_as high n = record { high = high; answer = misses n }
-
 -- refused, no answer
-unfoldable pub climbed : Terms → ℕ → Climbed
-climbed m given =
-    let answer = answer_of m given in
-    record { high = is_high m given; answer = cond (is_high m given) (misses 0) answer }
+unfoldable pub climbed : Terms → ℕ → Option Answer
+climbed m given = cond (is_high m given) None (Some (answer_of m given))
 
 -- the terms of an accepted task, with a start that is not late
 pub record Ready (m : Terms) (given : ℕ) : Type 0 where

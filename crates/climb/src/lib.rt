@@ -2,10 +2,10 @@
 #![tactic(auto)]
 
 ghost use Rattle.std.specs.Prelude.{◌≡◌};
-ghost use Rattle.releases.specs.Releases.{Small};
-ghost use Rattle.terms.specs.Terms.{terms_of};
-ghost use Rattle.climb.specs.Run.{Ready, lowest_of, climbed, ended_as};
+ghost use Rattle.terms.specs.Terms.{terms_in};
+ghost use Rattle.climb.specs.Run.{Ready, lowest_of, climbed};
 
+use counts::Grouped;
 use rules::{Answer, Picos, Verdict};
 use terms::Own;
 
@@ -16,59 +16,29 @@ fn lowest(own: Own) -> u64
     own.exec
 }
 
-// Whether F lowers the start that the rounds use, and the answer.
-#[derive(Clone, Copy)]
-pub struct Climbed {
-    pub high: bool,
-    pub answer: Answer,
-}
-
-// A miss, or no rounds at all.
-fn ended(high: bool, rounds: u64) -> Climbed
-    ensures { result ≡ ended_as high rounds }
+// The answer by the rounds from the larger of the lowest start and the given one; none where F lowers that.
+pub fn settle(own: Own, tasks: &Grouped, given: u64) -> Option<Answer>
+    requires { Ready (terms_in own tasks.now) given }
+    ensures { result ≡ climbed (terms_in own tasks.now) given }
 {
-    Climbed {
-        high,
-        answer: Answer {
-            verdict: Verdict::Misses,
-            rounds,
-        },
-    }
-}
-
-// The rounds from the larger of the lowest start and the given one, where F does not lower that.
-pub fn settle(
-    own: Own,
-    from: &[usize; 9],
-    periods: &[u64; 33],
-    invs: &[u64; 33],
-    execs: &[u64; 33],
-    asks: &[u64; 33],
-    given: u64,
-) -> Climbed
-    requires small { Small invs.now }
-    requires ready { Ready (terms_of own from.now periods.now execs.now asks.now) given }
-    ensures { result ≡ climbed (terms_of own from.now periods.now execs.now asks.now) given }
-{
-    let mut t = basics::most(lowest(own), given);
+    let mut t = lowest(own).max(given);
     let mut n: u64 = 1;
     loop {
-        let next = terms::apply(own, from, periods, invs, execs, asks, t);
+        let next = terms::apply(&own, tasks, t);
         if next.time == t {
-            let by = next.by;
-            return Climbed {
-                high: false,
-                answer: Answer {
-                    verdict: Verdict::Holds(Picos(t), by),
-                    rounds: n,
-                },
-            };
+            return Some(Answer {
+                verdict: Verdict::Holds(Picos(t), next.by),
+                rounds: n,
+            });
         }
         if next.time < t {
-            return ended(true, 0);
+            return None;
         }
         if own.latest < next.time {
-            return ended(false, n);
+            return Some(Answer {
+                verdict: Verdict::Misses,
+                rounds: n,
+            });
         }
         t = next.time;
         n += 1;

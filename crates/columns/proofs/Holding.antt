@@ -27,7 +27,8 @@ use Rattle.terms.specs.Terms.{terms_of}
 use Rattle.climb.specs.Run.{Ready, climbed}
 use Rattle.prices.specs.declared.Priced.{Priced}
 use Rattle.own.specs.Own.{own_with}
-use Rattle.rounds.specs.Lent.{Lent, place_at, terms_at, Judgeable}
+use Rattle.own.specs.declared.Lent.{Lent}
+use Rattle.rounds.specs.Lent.{place_at, terms_at, Judgeable}
 use Rattle.columns.specs.Numbered.{climbed_for}
 use Rattle.columns.specs.Held.{Held}
 use Rattle.columns.proofs.FromPlace.{From}
@@ -58,16 +59,16 @@ module _ (t : Table) (s : Sound t) {l : Lent} (o : Held t l) where
   -- a figure of a core's tasks, and of the first of them
   module _ {f : Task → ℕ} {column : List ℕ} (c : InOrder f t.task t.tasks o.order column) where
     figure_at : (q j : ℕ) → q < t.cores → j < length (places_on l.core (q + 1) t.tasks)
-        → get_or column (get_or l.begins q 0 + j) 0 ≡ f (task_in t (get_or (places_on l.core (q + 1) t.tasks) j 0))
+        → get_or column (get_or l.tasks.begins q 0 + j) 0 ≡ f (task_in t (get_or (places_on l.core (q + 1) t.tasks) j 0))
     figure_at q j there few =
         let g = o.ordered.each q there in
-        c.each (get_or l.begins q 0 + j) (omega (arith, g.next, g.few)) ∙ ap (λ (i : ℕ). f (task_in t i)) (g.each j few)
+        c.each (get_or l.tasks.begins q 0 + j) (omega (arith, g.next, g.few)) ∙ ap (λ (i : ℕ). f (task_in t i)) (g.each j few)
 
-    from_places : (q i : ℕ) → q < t.cores → i ≤ t.tasks → From f (map (task_in t) (places_on l.core (q + 1) i)) (get_or l.begins q 0) column
+    from_places : (q i : ℕ) → q < t.cores → i ≤ t.tasks → From f (map (task_in t) (places_on l.core (q + 1) i)) (get_or l.tasks.begins q 0) column
     from_places q i there h = record { each = go }
       where
         go : (j : ℕ) → j < length (map (task_in t) (places_on l.core (q + 1) i))
-            → get_or column (get_or l.begins q 0 + j) 0 ≡ f (get_or (map (task_in t) (places_on l.core (q + 1) i)) j no_task)
+            → get_or column (get_or l.tasks.begins q 0 + j) 0 ≡ f (get_or (map (task_in t) (places_on l.core (q + 1) i)) j no_task)
         go j few =
             let ps = places_on l.core (q + 1) i in
             let here : j < length ps = rw (length-map ps (task_in t)) at few in
@@ -78,7 +79,7 @@ module _ (t : Table) (s : Sound t) {l : Lent} (o : Held t l) where
   count_is : (q : ℕ) → length (tasks_on t q) ≡ length (places_on l.core q t.tasks)
   count_is q = rw (on_is q) (length-map (places_on l.core q t.tasks) (task_in t))
 
-  grouped : Grouped t l.begins l.periods l.execs l.asks
+  grouped : Grouped t l.tasks.begins l.tasks.periods l.tasks.execs l.tasks.requests
   grouped q here =
       let g = o.ordered.each q here in
       record {
@@ -93,7 +94,7 @@ module _ (t : Table) (s : Sound t) {l : Lent} (o : Held t l) where
     own = (task_in t i).core
 
     abbrev first : ℕ
-    first = get_or l.begins (own - 1) 0
+    first = get_or l.tasks.begins (own - 1) 0
 
     own_is : get_or l.core i 0 ≡ own
     own_is = o.per_task.core_is i here
@@ -142,7 +143,7 @@ module _ (t : Table) (s : Sound t) {l : Lent} (o : Held t l) where
     above_of : {f : Task → ℕ} {column : List ℕ} → InOrder f t.task t.tasks o.order column → From f (higher t (i + 1)) first column
     above_of c = rw higher_is (rw back at (from_places c (own - 1) i there (omega arith)))
 
-    above : Above t (i + 1) first (place_at l i) l.periods l.execs l.asks
+    above : Above t (i + 1) first (place_at l i) l.tasks.periods l.tasks.execs l.tasks.requests
     above =
         record {
           ends = ends;
@@ -156,12 +157,12 @@ module _ (t : Table) (s : Sound t) {l : Lent} (o : Held t l) where
     unfolding all_costs costs_of
     cost_is = rw o.board_is (place_of no_costs (costs_of t) 8 t.cores own own_in.low own_in.high)
 
-    terms_are : terms_at l i ≡ terms_for t (i + 1) first (place_at l i) l.begins l.periods l.execs l.asks
+    terms_are : terms_at l i ≡ terms_for t (i + 1) first (place_at l i) l.tasks.begins l.tasks.periods l.tasks.execs l.tasks.requests
     terms_are =
         rw (core_is, less, own-figure o.columns.execs, own-figure o.columns.requests, o.per_task.latest_is i here, own_is, cost_is)
         (ap
         (λ (b : Priced).
-        terms_of (own_with (C (task_in t i)) (H (task_in t i)) (latest (task_in t i)) (costs_of t own).request (others_with b.cores (costs_of t own).weight (twice_on l.begins l.asks)) first (place_at l i)) l.begins l.periods l.execs l.asks)
+        terms_of (own_with (C (task_in t i)) (H (task_in t i)) (latest (task_in t i)) (costs_of t own).request (others_with b.cores (costs_of t own).weight (twice_on l.tasks.begins l.tasks.requests)) first (place_at l i)) l.tasks.begins l.tasks.periods l.tasks.execs l.tasks.requests)
         o.board_is)
 
     of_ready : (start : ℕ) → start ≤ get_or l.latest i 0 → Ready (terms_at l i) start

@@ -1,5 +1,5 @@
 -- A board of more cores than a table has places for, and the tasks of a file's records, one after the other. Assumes nothing.
-use mathlib.Core.Path.{◌≡◌, sym}
+use mathlib.Core.Path.{◌≡◌, refl, sym}
 use mathlib.Core.List.{List}
 use Prim.Native.Nat.{ℕ, ◌+◌, ◌<◌, ◌≤◌}
 use native.Mathlib.Omega.{arith}
@@ -8,7 +8,9 @@ use borrow.Author.Tests.{lt-leb}
 use Rattle.rules.specs.declared.Task.{Task}
 use Rattle.rules.specs.declared.Table.{Table}
 use Rattle.rules.specs.Tasks.{no_task}
-use Rattle.rules.specs.Chain.{refused}
+use Rattle.std.specs.Prelude.{Err}
+use Rattle.rules.specs.Chain.{refused, granted}
+use Rattle.facts.proofs.Chain.{denied}
 use Rattle.rules.specs.Refusals.{counts_fault, board_refusal, check_board}
 use Rattle.rules.specs.File.{records_at, record_size, record_at, record_task, record_in, cores_in, form_in, decode}
 use Rattle.laws.specs.Idioms.{filled}
@@ -24,9 +26,9 @@ unfolding check_board board_refusal counts_fault
 many-cores t h = rw (lt-leb t.cores 8 h, and_false)
 
 module _ (s : List ℕ) where
-  pub counted-out : 8 < cores_in s → refused 5 0 ≡ check_board (decode s)
+  pub counted-out : 8 < cores_in s → Err (refused 5 0) ≡ granted (check_board (decode s)) (tt {0})
   unfolding decode
-  counted-out many = sym (many-cores (decode s) many)
+  counted-out many = rw (many-cores (decode s) many) (sym (denied (refused 5 0) (tt {0}) refl))
 
   pub task-next : (i : ℕ) → i < 32 → set (filled 32 no_task (tasks_to s i)) i (record_task (record_in s (i + 1))) ≡ filled 32 no_task (tasks_to s (i + 1))
   task-next i h =

@@ -3,21 +3,21 @@
 
 ghost use Rattle.std.specs.Prelude.{◌≡◌, ◌+◌, ◌≤◌, length};
 ghost use Rattle.laws.specs.Idioms.{filled};
+ghost use Rattle.rules.specs.Chain.{granted};
 ghost use Rattle.rules.specs.Tasks.{no_task};
 ghost use Rattle.rules.specs.Refusals.{check_board};
 ghost use Rattle.rules.specs.File.{records_at, record_at, cores_in, form_in, first_tasks, decode};
 ghost use Rattle.contents.specs.Tasks.{tasks_to};
 
+use chain::refuse_if;
 use rules::{Refusal, Table, Task};
 
 // 5 to 8 and 16, of a file that reaches the end of its sets. Sets that have no room in a table are refused by their count before they are looked at.
-pub fn board(file: &[u8]) -> Refusal
+pub fn board(file: &[u8]) -> Result<(), Refusal>
     requires { records_at (form_in file.now) (cores_in file.now) ≤ length file.now }
-    ensures { result ≡ check_board (decode file.now) }
+    ensures { result ≡ granted (check_board (decode file.now)) tt }
 {
-    if 8 < file[0] {
-        return basics::refused(5, 0);
-    }
+    refuse_if(8 < file[0], 5, 0)?;
     let sets = fields::sets_in(file);
     checks::board_refusal(
         file[0],
@@ -37,11 +37,8 @@ fn tasks(file: &[u8], n: usize) -> [Task; 32]
 {
     let none = tasks::no_task();
     let mut all = [none; 32];
-    let mut i: usize = 0;
-    while i < n {
-        let task = fields::record_task(file, i);
-        all[i] = task;
-        i += 1;
+    for i in 0..n {
+        all[i] = fields::record_task(file, i);
     }
     all
 }
@@ -52,16 +49,13 @@ pub fn table(file: &[u8], fourth: u8, n: u8) -> Table
     requires n_in_bounds { record_at (form_in file.now) (cores_in file.now) (n + 1) ≤ length file.now }
     ensures { result ≡ first_tasks file.now fourth n }
 {
-    let timing = fields::row_in(file);
-    let sets = fields::sets_in(file);
-    let task = tasks(file, places::size(n));
     Table {
         cores: file[0],
         partitions: file[1],
         tasks: n,
         fourth,
-        timing: timing,
-        sets: sets,
-        task: task,
+        timing: fields::row_in(file),
+        sets: fields::sets_in(file),
+        task: tasks(file, usize::from(n)),
     }
 }

@@ -9,7 +9,6 @@ use lib.ListN.{get_or}
 use Rattle.laws.specs.Idioms.{◌/↑◌}
 use Rattle.laws.proofs.Quotients.{ceil_pos}
 use Rattle.releases.specs.Releases.{Counted}
-use Rattle.releases.proofs.Quotients.{up_high}
 use Rattle.counts.specs.Counts.{sum_below, sum_from, released, later_of, twice_of, asked_by, Summed, Slots}
 
 pub below_next : (f : ℕ → ℕ) (n : ℕ) → sum_below f (n + 1) ≡ sum_below f n + f n
@@ -67,9 +66,6 @@ module _ {highest a e t i count : ℕ} {periods costs : List ℕ} (slots : Slots
   small : (jobs : ℕ) → jobs ≤ 10000 → jobs * get_or costs i 0 ≤ 10000 * highest
   small jobs few = mul-le-mul few (slots.bounded.cost i low here)
 
-  pub count-some : 1 ≤ t → 1 ≤ count
-  count-some some = omega (arith, counted.is, ceil_pos t (get_or periods i 0) some (omega (arith, (slots.period i low here).low)))
-
   pub released-next : {s next : ℕ} → Summed (10000 * highest) (released 0 t periods costs) a i s → next ≡ s + count * get_or costs i 0
       → Summed (10000 * highest) (released 0 t periods costs) a (i + 1) next
   unfolding released
@@ -103,7 +99,7 @@ module _ {highest a e : ℕ} {periods asks : List ℕ} (slots : Slots highest a 
   once : (i : ℕ) → a ≤ i → i < e → twice_of asks i ≡ released 1 0 periods asks i + released 1 0 periods asks i
   unfolding released twice_of
   once i from here =
-      let none : 0 /↑ get_or periods i 0 ≡ 0 = omega (arith, up_high 0 (get_or periods i 0) 0 (omega (arith, (slots.period i from here).low)) zero-le) in
+      let none : 0 /↑ get_or periods i 0 ≡ 0 = grind (arith, (slots.period i from here).low) in
       rw none (omega arith)
 
   pub asked_first : sum_from (twice_of asks) a e ≡ asked_by 1 0 a e periods asks + asked_by 1 0 a e periods asks

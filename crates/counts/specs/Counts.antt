@@ -1,6 +1,12 @@
 -- What the tasks in places of plain lists ask for in a time. Assumes nothing.
-use Rattle.std.specs.Prelude.{ℕ, zero, suc, ◌+◌, ◌*◌, ◌-◌, ◌≤◌, ◌<◌, ◌^◌, ◌≡◌, List, get_or}
+use Rattle.std.specs.Prelude.{ℕ, zero, suc, ◌+◌, ◌*◌, ◌-◌, ◌≤◌, ◌<◌, ◌^◌, ◌≡◌, List, replicate, get_or}
 use Rattle.laws.specs.Idioms.{◌/↑◌, Within}
+use Rattle.counts.specs.declared.Grouped.{Grouped}
+
+-- no tasks
+abbrev pub no_tasks : Grouped
+no_tasks =
+    record { begins = replicate 9 0; periods = replicate 33 0; inverses = replicate 33 0; execs = replicate 33 0; requests = replicate 33 0 }
 
 -- the sum over the first n places, and over the places from a to e
 unfoldable pub sum_below : (ℕ → ℕ) → ℕ → ℕ

@@ -22,12 +22,10 @@ fn costs(cores: usize, near: u8, far: &[u8; 8], p: usize, f: Figures) -> CoreCos
     let mut sum: u64 = 0;
     let free = Picos(0);
     let mut weight = [free; 8];
-    let mut q: usize = 0;
-    while q < cores {
+    for q in 0..cores {
         let each = weights::weigh(near, far, p, q + 1, f);
         weight[q] = Picos(each);
         sum += each;
-        q += 1;
     }
     let request = Picos(weights::request_delay(near, far, p, f, sum));
     CoreCosts { request, weight }
@@ -42,12 +40,5 @@ pub fn all_costs(cores: usize, sets: &[u16; 8], row: [u16; 15]) -> [CoreCosts; 8
     let mut near = [0u8; 8];
     let mut far = [0u8; 8];
     sides::all_sides(cores, sets, &mut near, &mut far);
-    let none = prices::no_costs();
-    let mut all = [none; 8];
-    let mut p: usize = 0;
-    while p < cores {
-        all[p] = costs(cores, near[p], &far, p + 1, figures);
-        p += 1;
-    }
-    all
+    prices::each_core(cores, |p| costs(cores, near[p - 1], &far, p, figures))
 }

@@ -6,7 +6,9 @@ use native.Mathlib.Decide.{ℕ_discrete}
 use native.Mathlib.Nat.{sub-zero}
 use native.Mathlib.Omega.{arith}
 use borrow.Author.Tests.{eqb-true}
-use Rattle.rules.specs.Chain.{accepted, refused, is_accepted, first_from, first}
+use Rattle.std.specs.Prelude.{Ok, Err}
+use Rattle.rules.specs.Chain.{accepted, refused, is_accepted, first_from, first, granted}
+use Rattle.facts.proofs.Chain.{faulty, allowed}
 
 -- what is left of looking for the first fault of places 1 to m after i of them
 abbrev pub Left : ℕ → (ℕ → Bool) → ℕ → ℕ → Type 0
@@ -28,6 +30,14 @@ module _ (n : ℕ) (fault : ℕ → Bool) (m : ℕ) where
     pub left-none : m ≤ i → accepted ≡ first n fault m
     unfolding first_from
     left-none h = let e : m - i ≡ 0 = omega arith in sym (left ∙ rw (e, first_from))
+
+-- the same of what code answers
+module _ {A : Type 0} (n : ℕ) (fault : ℕ → Bool) (m : ℕ) (x : A) (i : ℕ) (left : Left n fault m i) where
+  pub first-hit : 1 ≤ n → i < m → fault (i + 1) ≡ true → Err (refused n (i + 1)) ≡ granted (first n fault m) x
+  first-hit low h t = faulty n (i + 1) x low refl ∙ rw (left-hit n fault m i left h t) refl
+
+  pub first-clear : m ≤ i → Ok x ≡ granted (first n fault m) x
+  first-clear h = sym (allowed accepted x refl) ∙ rw (left-none n fault m i left h) refl
 
 -- where nothing is refused, no place is at fault
 module _ (n : ℕ) (fault : ℕ → Bool) where

@@ -3,12 +3,12 @@ use mathlib.Core.Path.{◌≡◌, refl, ap, ◌∙◌}
 use mathlib.Core.Bool.{Bool, true, false, cond}
 use mathlib.Core.List.{List}
 use Prim.Native.Nat.{ℕ}
-use Rattle.rules.specs.declared.Read.{Read}
-use Rattle.rules.specs.Chain.{is_accepted}
+use Rattle.rules.specs.Results.{Read}
+use Rattle.rules.specs.Chain.{is_accepted, granted}
 use Rattle.rules.specs.Refusals.{check_table}
 use Rattle.rules.specs.File.{check_whole, decode}
 use Rattle.rules.specs.Operations.{empty_table, read_nothing, taking, reading, check_file}
-use Rattle.facts.proofs.Chain.{both-accepted}
+use Rattle.facts.proofs.Chain.{both-accepted, granted-where}
 
 module _ (s : List ℕ) where
   -- one refusal, and the table where there is none
@@ -24,6 +24,10 @@ module _ (s : List ℕ) where
 
   pub refusal_read : (reading s).refusal ≡ check_file s
   refusal_read = ap (λ (r : Read). r.refusal) reading_is
+
+  -- as code answers it
+  pub read_is : granted (reading s).refusal (reading s).table ≡ granted (check_file s) (decode s)
+  read_is = rw reading_is (granted-where (check_file s) (decode s) empty_table)
 
   pub refused-read : is_accepted (check_file s) ≡ false → reading s ≡ read_nothing (check_file s)
   refused-read e = reading_is ∙ rw e

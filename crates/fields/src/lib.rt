@@ -2,7 +2,7 @@
 #![tactic(auto)]
 
 ghost use Rattle.std.specs.Prelude.{◌≡◌, ◌+◌, ◌*◌, ◌≤◌, ◌<◌, length};
-ghost use Rattle.std.proofs.lemmas.List.Edits.{sets};
+ghost use Rattle.laws.specs.Idioms.{filled};
 ghost use Rattle.rules.specs.Tasks.{task_of};
 ghost use Rattle.rules.specs.File.{records_at, record_size, record_at, record_task, record_in, cores_in, tasks_in, form_in, decode};
 ghost use Rattle.fields.specs.Places.{Sized, figures_in, sets_of};
@@ -26,14 +26,11 @@ fn task_in(part: &[u8]) -> Task
     requires { 29 ≤ length part.now }
     ensures { result ≡ record_task part.now }
 {
-    let exec = lent_bytes::le64(part, 1);
-    let period = lent_bytes::le64(part, 9);
-    let deadline = lent_bytes::le64(part, 17);
     Task {
         core: part[0],
-        exec: Picos(exec),
-        period: Picos(period),
-        deadline: Picos(deadline),
+        exec: Picos(lent_bytes::le64(part, 1)),
+        period: Picos(lent_bytes::le64(part, 9)),
+        deadline: Picos(lent_bytes::le64(part, 17)),
         requests: lent_bytes::le32(part, 25),
     }
 }
@@ -56,18 +53,18 @@ pub fn task_at(file: &[u8], i: usize) -> Task
     record_task(file, i)
 }
 
-// The n figures of two bytes from a place on.
-fn figures(file: &[u8], at: usize, n: usize, into: &mut [u16])
-    requires n_in_bounds { n ≤ length into.old }
+// The n figures of two bytes from a place on, and 0 in the other places.
+fn figures<const N: usize>(file: &[u8], at: usize, n: usize) -> [u16; N]
+    requires room { n ≤ N }
     requires n_bound { n ≤ 255 }
-    requires n_in_bounds_2 { at + 2 * n ≤ length file.now }
-    ensures { into.new ≡ sets into.old 0 (figures_in file.now at n) }
+    requires in_bounds { at + 2 * n ≤ length file.now }
+    ensures { result ≡ filled N 0 (figures_in file.now at n) }
 {
-    let mut i: usize = 0;
-    while i < n {
-        into[i] = lent_bytes::le16(file, at + 2 * i);
-        i += 1;
+    let mut all = [0u16; N];
+    for i in 0..n {
+        all[i] = lent_bytes::le16(file, at + 2 * i);
     }
+    all
 }
 
 // The 15 timing figures.
@@ -75,9 +72,7 @@ pub fn row_in(file: &[u8]) -> [u16; 15]
     requires { 34 ≤ length file.now }
     ensures { result ≡ figures_in file.now 4 15 }
 {
-    let mut timing = [0u16; 15];
-    figures(file, 4, 15, &mut timing[..]);
-    timing
+    figures(file, 4, 15)
 }
 
 // The sets of the cores, which have room in a table.
@@ -86,12 +81,5 @@ pub fn sets_in(file: &[u8]) -> [u16; 8]
     requires file_in_bounds { records_at (form_in file.now) (cores_in file.now) ≤ length file.now }
     ensures { result ≡ sets_of file.now }
 {
-    let mut sets = [0u16; 8];
-    figures(
-        file,
-        places::sets_at(file[3]),
-        places::size(file[0]),
-        &mut sets[..],
-    );
-    sets
+    figures(file, places::sets_at(file[3]), usize::from(file[0]))
 }

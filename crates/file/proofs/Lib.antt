@@ -1,5 +1,3 @@
 -- What the proofs of the functions stand on, and those of callers.
---     Reading  what reading and viewing answer, one refusal at a time
---     WasRead  what code knows of a file that it read
+--     Reading  a file that came whole, the figures taken out of it, and what an accepted file is known to be
 pub mod Reading
-pub mod WasRead

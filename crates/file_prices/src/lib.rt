@@ -1,24 +1,45 @@
-// What the cores of an accepted table file cost each other, from its bytes.
-#![tactic(auto)]
+// An accepted table file as a place where a table's figures stand: they are read from its bytes, and no table is made.
+#![tactic(auto, using(crate::proofs::InFile::known))]
 
 ghost use Rattle.std.specs.Prelude.{◌≡◌, true};
 ghost use Rattle.rules.specs.Chain.{is_accepted};
 ghost use Rattle.rules.specs.File.{decode};
 ghost use Rattle.rules.specs.Operations.{check_file};
-ghost use Rattle.prices.specs.Costs.{priced_of};
 
-use prices::Priced;
+use rules::Task;
+use table_columns::Source;
 
-pub fn priced(file: &[u8]) -> Priced
-    requires { is_accepted (check_file file.now) ≡ true }
-    ensures { result ≡ priced_of (decode file.now) }
-{
-    let cores = places::size(file[0]);
-    let sets = fields::sets_in(file);
-    let costs = board::all_costs(file[3], cores, &sets, fields::row_in(file));
-    Priced {
-        tasks: places::size(file[2]),
-        cores,
-        costs,
+// The bytes of a file that reading accepts.
+#[derive(Clone, Copy)]
+pub struct Accepted<'a> {
+    pub file: &'a [u8],
+    pub ghost accepted: { is_accepted (check_file file.now) ≡ true },
+}
+
+impl<'a> Source for Accepted<'a> {
+    ghost table = { λ a. decode a.file.now };
+
+    fn tasks(&self) -> usize {
+        places::size(self.file[2])
+    }
+
+    fn cores(&self) -> usize {
+        places::size(self.file[0])
+    }
+
+    fn fourth(&self) -> u8 {
+        self.file[3]
+    }
+
+    fn sets(&self) -> [u16; 8] {
+        fields::sets_in(self.file)
+    }
+
+    fn timing(&self) -> [u16; 15] {
+        fields::row_in(self.file)
+    }
+
+    fn task(&self, i: usize) -> Task {
+        fields::task_at(self.file, i)
     }
 }

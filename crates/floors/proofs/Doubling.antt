@@ -2,18 +2,14 @@
 use mathlib.Core.Path.{◌≡◌}
 use mathlib.Core.List.{List}
 use Prim.Native.Nat.{ℕ, ◌+◌, ◌*◌, ◌<◌, ◌^◌}
-use native.Mathlib.Nat.{not-suc-le-zero}
 use native.Mathlib.Decide.{ℕ_discrete}
 use native.Mathlib.Omega.{arith}
-use lib.ListN.{length, length-set, get_or, set}
+use lib.ListN.{length-set, get_or, set}
 use lib.Seq.{get_or-set_same, get_or-set_other}
 use Rattle.counts.specs.Counts.{twice_of, Summed, Bounded}
 use Rattle.floors.specs.Floors.{twice_on, DoubledAt, Doubled}
 
 module _ {begins asks doubled : List ℕ} where
-  pub doubled_none : length doubled ≡ 8 → Doubled 0 begins asks doubled
-  doubled_none long = record { long = long; each = λ q h. absurd (not-suc-le-zero h) }
-
   pub doubled_next : {q r : ℕ} → q < 8 → Doubled q begins asks doubled → Bounded (10 ^ 6) (get_or begins q 0) (get_or begins (q + 1) 0) asks
       → Summed (2 * 10 ^ 6) (twice_of asks) (get_or begins q 0) (get_or begins (q + 1) 0) r → Doubled (q + 1) begins asks (set doubled q r)
   unfolding twice_on

@@ -5,32 +5,29 @@ ghost use Rattle.std.specs.Prelude.{◌≡◌, ◌*◌, ◌^◌, get_or};
 ghost use Rattle.counts.specs.Counts.{twice_of, Summed, Bounded};
 ghost use Rattle.floors.specs.Floors.{Lots, Doubled, Fits, others_with};
 
+use counts::Grouped;
 use rules::Picos;
 
 // The requests of two jobs of each task in places a to e.
-fn twice(a: usize, e: usize, asks: &[u64; 33]) -> u64
-    requires { Bounded (10 ^ 6) a e asks.now }
-    ensures { Summed (2 * 10 ^ 6) (twice_of asks.now) a e result }
+fn twice(a: usize, e: usize, requests: &[u64; 33]) -> u64
+    requires { Bounded (10 ^ 6) a e requests.now }
+    ensures { Summed (2 * 10 ^ 6) (twice_of requests.now) a e result }
 {
     let mut sum: u64 = 0;
-    let mut i = a;
-    while i < e {
-        sum += 2 * asks[i];
-        i += 1;
+    for n in &requests[a..e] {
+        sum += 2 * *n;
     }
     sum
 }
 
 // That of each core's tasks, once a table.
-pub fn doubled(cores: usize, from: &[usize; 9], asks: &[u64; 33]) -> [u64; 8]
-    requires { Lots cores from.now asks.now }
-    ensures { Doubled cores from.now asks.now result }
+pub fn doubled(cores: usize, tasks: &Grouped) -> [u64; 8]
+    requires { Lots cores tasks.now.begins tasks.now.requests }
+    ensures { Doubled cores tasks.now.begins tasks.now.requests result }
 {
     let mut out = [0u64; 8];
-    let mut q: usize = 0;
-    while q < cores {
-        out[q] = twice(from[q], from[q + 1], asks);
-        q += 1;
+    for q in 0..cores {
+        out[q] = twice(tasks.begins[q], tasks.begins[q + 1], &tasks.requests);
     }
     out
 }
@@ -49,10 +46,8 @@ pub fn with_floor(cores: usize, weight: [Picos; 8], doubled: &[u64; 8]) -> Other
     ensures { result ≡ others_with cores weight (λ q. get_or doubled.now q 0) }
 {
     let mut sum: u64 = 0;
-    let mut q: usize = 0;
-    while q < cores {
+    for q in 0..cores {
         sum += doubled[q] * weight[q].0;
-        q += 1;
     }
     Others {
         cores,

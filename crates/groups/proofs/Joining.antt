@@ -11,7 +11,7 @@ use lib.ListN.{length-set, take, get_or, set, replicate}
 use lib.Seq.{take-suc-set, take-set-le}
 use Rattle.laws.proofs.Fill.{set_keeps}
 use Rattle.laws.proofs.Filled.{only_default}
-use Rattle.standing.specs.OnCore.{OneIf, places_on}
+use Rattle.standing.specs.OnCore.{places_on}
 use Rattle.standing.proofs.PlacesOn.{places_none, places_next, count_next}
 use Rattle.groups.specs.Grouped.{PlacesBelow, Joined}
 
@@ -28,12 +28,12 @@ module _ (core : List ℕ) (q : ℕ) where
     pub joined-none : PlacesBelow n old → Joined n (places_on core q 0) m m old old
     joined-none low = record { count = rw places_none (omega arith); is = rw (places_none, append-nil); low = low }
 
-    pub joined-next : (i : ℕ) {e k : ℕ} {out : List ℕ} → i < n → e < 33 → Joined n (places_on core q i) m e old out → OneIf (eqb (get_or core i 0) q) k
+    pub joined-next : (i : ℕ) {e k : ℕ} {out : List ℕ} → i < n → e < 33 → Joined n (places_on core q i) m e old out → k ≡ cond (eqb (get_or core i 0) q) 1 0
         → Joined n (places_on core q (i + 1)) m (e + k) old (set out e i)
     joined-next i {e} {k} {out} small fits so one =
         record {
-          count = omega (arith, count_next core q i, so.count, one.is);
-          is = rw (places_next core q i, ← append_assoc (take m old) (places_on core q i) _, ← so.is, one.is) (go (eqb (get_or core i 0) q));
+          count = omega (arith, count_next core q i, so.count, one);
+          is = rw (places_next core q i, ← append_assoc (take m old) (places_on core q i) _, ← so.is, one) (go (eqb (get_or core i 0) q));
           low = low-set so.low e small;
         }
       where

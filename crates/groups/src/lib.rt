@@ -12,11 +12,9 @@ fn group(n: usize, q: u8, m: usize, core: &[u8; 32], order: &mut [usize; 33]) ->
     ensures { Joined n (places_on core.now q n) m result order.old order.new }
 {
     let mut at = m;
-    let mut i: usize = 0;
-    while i < n {
+    for i in 0..n {
         order[at] = i;
-        at += standing::same(core[i], q);
-        i += 1;
+        at += usize::from(core[i] == q);
     }
     at
 }
@@ -29,11 +27,9 @@ pub fn grouped(n: usize, cores: usize, core: &[u8; 32], order: &mut [usize; 33])
 {
     let mut from = [0usize; 9];
     let mut m: usize = 0;
-    let mut q: usize = 0;
-    while q < cores {
+    for q in 0..cores {
         m = group(n, (q as u8) + 1, m, core, order);
         from[q + 1] = m;
-        q += 1;
     }
     from
 }

@@ -1,25 +1,25 @@
 -- The order of refusals of a judgement, link by link. Assumes nothing.
-use mathlib.Core.Path.{◌≡◌, refl, ap, ◌∙◌}
-use mathlib.Core.Bool.{true, false, cond}
+use mathlib.Core.Path.{◌≡◌, refl, sym, ap, ◌∙◌}
+use mathlib.Core.Bool.{Bool, true, false, cond}
 use mathlib.Core.List.{List}
 use Prim.Native.Nat.{ℕ, ◌≤◌}
+use native.Mathlib.Omega.{arith}
 use borrow.Author.Tests.{ltb-false, not-false}
+use Rattle.std.specs.Prelude.{Result, Ok, Err, None, Some, ok_or, IsErrAnd}
 use Rattle.rules.specs.declared.Table.{Table}
 use Rattle.rules.specs.declared.Refusal.{Refusal}
-use Rattle.rules.specs.declared.Judged.{Judged}
+use Rattle.rules.specs.declared.Answer.{Answer}
 use Rattle.rules.specs.Tasks.{latest, task_of}
-use Rattle.rules.specs.Judgement.{misses, judge}
+use Rattle.rules.specs.Judgement.{judge}
 use Rattle.facts.specs.Sound.{Sound}
 use Rattle.rules.specs.Refusals.{check_judged, asked_fault, late_start, high_start, check_one, check_all, check_start}
 use Rattle.rules.specs.Operations.{judge_one, judge_all}
-use Rattle.facts.proofs.Chain.{both-accepted, first-refuses, second_decides, no_fault}
+use Rattle.facts.proofs.Chain.{both-accepted, no_fault, returned, denied, was-allowed, was-denied, faulty, faultless, stops_at, goes_on_to}
 use Rattle.facts.proofs.Starts.{judged-sound}
-use Rattle.laws.specs.Idioms.{entry, Within}
+use Rattle.laws.specs.Idioms.{Within}
 use Rattle.laws.proofs.Tests.{inside}
-use Rattle.climb.specs.declared.Climbed.{Climbed}
-use Rattle.unjudged.specs.Unjudged.{none_judged}
-use Rattle.columns.specs.Numbered.{climbed_for, not_judged}
-use Rattle.rules.specs.Chain.{accepted, refused, is_accepted, ◌or_else◌, given}
+use Rattle.columns.specs.Numbered.{climbed_for}
+use Rattle.rules.specs.Chain.{refused, is_accepted, ◌or_else◌, given, granted}
 
 -- ---- one task
 
@@ -44,47 +44,32 @@ module _ (t : Table) (k start : ℕ) (passed : is_accepted (check_start t k star
   start_fits = ltb-false (latest (task_of t k)) start (no_fault 12 k (late_start t k start) start-links.1)
 
 -- 14, or the answer
+settled : (k : ℕ) (high : Bool) (a b : Answer) → (high ≡ false → a ≡ b) → ok_or (cond high None (Some a)) (refused 14 k) ≡ granted (given 14 k high) b
+settled k true a b e = faulty 14 k b (omega arith) refl
+settled k false a b e = ap Ok (e refl) ∙ faultless 14 k b refl
 
 module _ (t : Table) (k start : ℕ) where
-  one_is : check_one t k start ≡ check_start t k start or_else given 14 k (high_start t k start)
-  unfolding check_one
-  one_is = refl
+  abbrev one_answered : Result Answer Refusal
+  one_answered = granted (judge_one t k start).refusal (judge_one t k start).answer
 
-  one-refused : (r : Refusal) → is_accepted r ≡ false → check_one t k start ≡ r → not_judged r ≡ judge_one t k start
-  unfolding judge_one not_judged
-  one-refused r h e = rw (e, h)
+  pub stops-start : {r : Result Answer Refusal} {d : Refusal} → IsErrAnd r (λ e. e ≡ d) → Err d ≡ granted (check_start t k start) (tt {0}) → r ≡ one_answered
+  unfolding judge_one check_one
+  stops-start h e = stops_at (check_start t k start) (given 14 k (high_start t k start)) (tt {0}) _ h e
 
-  pub one-start : is_accepted (check_start t k start) ≡ false → not_judged (check_start t k start) ≡ judge_one t k start
-  one-start h = one-refused (check_start t k start) h (one_is ∙ first-refuses (check_start t k start) (given 14 k (high_start t k start)) h)
-
-  module _ (passed : is_accepted (check_start t k start) ≡ true) {r : Climbed} (is : r ≡ climbed_for t k start) where
-    high_is : r.high ≡ high_start t k start
-    unfolding climbed_for
-    high_is = ap (λ (r : Climbed). r.high) is
-
-    high_decides : check_one t k start ≡ given 14 k r.high
-    high_decides = rw high_is (one_is ∙ second_decides (check_start t k start) (given 14 k (high_start t k start)) passed)
-
-    pub one-high : r.high ≡ true → not_judged (refused 14 k) ≡ judge_one t k start
-    one-high h = one-refused (refused 14 k) refl (rw h at high_decides)
-
-    answer_is : r.high ≡ false → r.answer ≡ judge t k start
-    unfolding climbed_for
-    answer_is h =
-        let e : r.answer ≡ cond (high_start t k start) (misses 0) (judge t k start) = ap (λ (r : Climbed). r.answer) is in
-        rw (← high_is, h) at e
-
-    pub one_answer : r.high ≡ false → ◌≡◌ {A = Judged} (record { refusal = accepted; answer = r.answer }) (judge_one t k start)
-    unfolding judge_one
-    one_answer h = let e : check_one t k start ≡ accepted = rw h at high_decides in rw (e, answer_is h)
+  pub rounds-decide : {v : Unit {0}} → Ok v ≡ granted (check_start t k start) (tt {0}) → {r : Result Answer Refusal}
+      → r ≡ ok_or (climbed_for t k start) (refused 14 k) → r ≡ one_answered
+  unfolding judge_one check_one climbed_for
+  rounds-decide e is =
+      let passed = (was-allowed (check_start t k start) (tt {0}) (sym e)).0 in
+      goes_on_to (check_start t k start) (given 14 k (high_start t k start)) (tt {0}) _ e
+      (is ∙ settled k (high_start t k start) (judge t k start) _ (λ low. rw (passed, low)))
 
 -- ---- all tasks
 
 module _ (t : Table) (starts : List ℕ) where
-  all-refused : (r : Refusal) → is_accepted r ≡ false → check_all t (entry 0 starts) ≡ r → none_judged r ≡ judge_all t starts
-  unfolding judge_all none_judged
-  all-refused r h e = rw (e, h)
-
-  pub all-table : is_accepted (check_judged t) ≡ false → none_judged (check_judged t) ≡ judge_all t starts
-  unfolding check_all
-  all-table h = all-refused (check_judged t) h (simp h)
+  pub stops-table : {r : Result (List Answer) Refusal} {d : Refusal} → IsErrAnd r (λ e. e ≡ d) → Err d ≡ granted (check_judged t) (tt {0})
+      → r ≡ granted (judge_all t starts).refusal (judge_all t starts).answers
+  unfolding judge_all check_all
+  stops-table {r} {d} h e =
+      let w = was-denied (check_judged t) (tt {0}) (sym e) in
+      returned r h ∙ rw (← w.1) (simp w.0 (sym (denied (check_judged t) _ w.0)))

@@ -11,9 +11,7 @@ use rules::Task;
 fn task_fault(cores: u8, x: Task) -> bool
     ensures { result ≡ task_fault cores x }
 {
-    let seen = tasks::noted(tasks::no_faults(), 1, cores, x);
-    let refusal = tasks::told(seen);
-    refusal.number != 0
+    tasks::check_each(cores, 1, |_| x).is_err()
 }
 
 // Is the record in place i whole, and its task without a fault?
@@ -24,10 +22,7 @@ fn is_sound(file: &[u8], i: usize) -> bool
 {
     let form = file[3];
     let end = places::record_at(form, file[0], i) + places::record_size(form);
-    if file.len() < end {
-        return false;
-    }
-    !task_fault(file[0], fields::record_task(file, i))
+    end <= file.len() && !task_fault(file[0], fields::record_task(file, i))
 }
 
 // How many are kept, of a file that reaches the end of its sets.
@@ -36,12 +31,10 @@ pub fn count(file: &[u8]) -> u8
     ensures { result ≡ kept file.now }
 {
     let promised = file[2];
-    let mut i: u8 = 0;
-    while i < promised {
-        if !is_sound(file, places::size(i)) {
+    for i in 0..promised {
+        if !is_sound(file, usize::from(i)) {
             return i;
         }
-        i += 1;
     }
     promised
 }

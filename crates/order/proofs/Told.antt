@@ -1,32 +1,32 @@
 -- A change is told exactly where the newer table is not the older one worsened. Assumes nothing.
 use mathlib.Core.Path.{◌≡◌, refl}
-use mathlib.Core.Bool.{Bool, true, false, cond, ◌&&◌, ◌||◌, or-false}
+use mathlib.Core.Bool.{Bool, true, false, ◌&&◌}
 use mathlib.Core.List.{List}
 use Prim.Native.Nat.{ℕ, zero, suc, ◌+◌}
 use lib.Dec.{eqb}
+use Rattle.std.specs.Prelude.{Option, None, Some}
+use Rattle.std.specs.Option.{is_none}
 use Rattle.rules.specs.declared.Task.{Task}
 use Rattle.rules.specs.declared.Table.{Table}
 use Rattle.laws.specs.Idioms.{every, from, up_to, entry}
 use Rattle.rules.specs.Order.{same_board, worse_task, worsens}
+use Rattle.changes.specs.declared.Figure.{Figure}
 use Rattle.changes.specs.declared.Change.{Change}
-use Rattle.changes.specs.Difference.{is_none, ◌or_else◌, unless, first_from, first_of, unlike, counts_difference, board_difference, task_difference, tasks_difference, difference}
+use Rattle.changes.specs.Difference.{◌or_else◌, unless, first_from, first_of, unlike, counts_difference, board_difference, task_difference, tasks_difference, difference}
 use Rattle.order.specs.Agrees.{Agrees}
 
 -- a figure, and one change or another
-fine_none : (fine : Bool) (what place was is : ℕ) → is_none (unless fine what place was is) ≡ fine || eqb what 0
+fine_none : (fine : Bool) (what : Figure) (place was is : ℕ) → is_none (unless fine what place was is) ≡ fine
 fine_none true what place was is = refl
 fine_none false what place was is = refl
 
-both-none : (a b : Change) → is_none (a or_else b) ≡ is_none a && is_none b
+both-none : (a b : Option Change) → is_none (a or_else b) ≡ is_none a && is_none b
 unfolding ◌or_else◌
-both-none a b = go (is_none a) refl
-  where
-    go : (q : Bool) → is_none a ≡ q → is_none (cond q b a) ≡ q && is_none b
-    go true e = refl
-    go false e = e
+both-none None b = refl
+both-none (Some x) b = refl
 
 -- many places
-module _ (d : ℕ → Change) (fine : ℕ → Bool) (each : (k : ℕ) → is_none (d k) ≡ fine k) where
+module _ (d : ℕ → Option Change) (fine : ℕ → Bool) (each : (k : ℕ) → is_none (d k) ≡ fine k) where
   from-none : (k n : ℕ) → is_none (first_from d k n) ≡ every fine (from k n)
   unfolding first_from from
   from-none k zero = refl
@@ -35,17 +35,17 @@ module _ (d : ℕ → Change) (fine : ℕ → Bool) (each : (k : ℕ) → is_non
   first-none : (n : ℕ) → is_none (first_of d n) ≡ every fine (up_to n)
   first-none n = from-none 1 n
 
-unlike-none : (what n : ℕ) (a b : List ℕ) → is_none (unlike what n a b) ≡ every (λ k. eqb (entry 0 a k) (entry 0 b k) || eqb what 0) (up_to n)
+unlike-none : (what : Figure) (n : ℕ) (a b : List ℕ) → is_none (unlike what n a b) ≡ every (λ k. eqb (entry 0 a k) (entry 0 b k)) (up_to n)
 unfolding unlike
 unlike-none what n a b = first-none _ _ (λ k. fine_none (eqb (entry 0 a k) (entry 0 b k)) what k (entry 0 a k) (entry 0 b k)) n
 
 task-none : (k : ℕ) (i j : Task) → is_none (task_difference k i j) ≡ worse_task i j
 unfolding task_difference worse_task
-task-none k i j = simp (both-none, fine_none, or-false)
+task-none k i j = simp (both-none, fine_none)
 
 board-none : (a b : Table) → is_none (board_difference a b) ≡ same_board a b
 unfolding counts_difference board_difference same_board
-board-none a b = simp (both-none, fine_none, or-false, unlike-none)
+board-none a b = simp (both-none, fine_none, unlike-none)
 
 pub agrees : Agrees
 unfolding difference tasks_difference worsens

@@ -1,17 +1,24 @@
--- A task's own figures from lent columns: by the tasks' numbers the latest allowed response; core after core C and H, and where each core's tasks begin.
--- Places are counted from 0. Assumes nothing.
-use Rattle.std.specs.Prelude.{ℕ, List, get_or}
+-- A task's own figures from lent columns. Places are counted from 0. Assumes nothing.
+use Rattle.std.specs.Prelude.{ℕ, ◌-◌, get_or}
+use Rattle.laws.specs.Idioms.{entry}
 use Rattle.rules.specs.declared.Picos.{Picos}
 use Rattle.prices.specs.declared.CoreCosts.{CoreCosts}
+use Rattle.prices.specs.Costs.{no_costs}
 use Rattle.floors.specs.declared.Others.{Others}
 use Rattle.floors.specs.Floors.{twice_on, others_with}
 use Rattle.terms.specs.declared.Own.{Own}
+use Rattle.own.specs.declared.Lent.{Lent}
 
 abbrev pub own_with : ℕ → ℕ → ℕ → Picos → Others → ℕ → ℕ → Own
 own_with exec requests latest delay others first place =
     record { exec = exec; requests = requests; latest = latest; delay = delay; others = others; first = first; place = place }
 
--- the task in place i, whose core is in place p, and which stands at `place`
-abbrev pub own_of : ℕ → CoreCosts → List ℕ → List ℕ → List ℕ → List ℕ → ℕ → ℕ → ℕ → Own
-own_of cores cost latest begins execs asks p i place =
-    own_with (get_or execs place 0) (get_or asks place 0) (get_or latest i 0) cost.request (others_with cores cost.weight (twice_on begins asks)) (get_or begins p 0) place
+-- what the core of the task in place i costs
+abbrev pub cost_at : Lent → ℕ → CoreCosts
+cost_at l i = entry no_costs l.board.costs (get_or l.core i 0)
+
+-- the task in place i, which stands at `place`
+abbrev pub own_of : Lent → ℕ → ℕ → Own
+own_of l i place =
+    own_with (get_or l.tasks.execs place 0) (get_or l.tasks.requests place 0) (get_or l.latest i 0) (cost_at l i).request
+    (others_with l.board.cores (cost_at l i).weight (twice_on l.tasks.begins l.tasks.requests)) (get_or l.tasks.begins (get_or l.core i 0 - 1) 0) place

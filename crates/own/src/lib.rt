@@ -1,41 +1,42 @@
-// The figures of its own that the judgement of one task of lent columns starts from.
+// The tasks of a table in lent columns, and the figures of its own that the judgement of one of them starts from.
 #![tactic(auto)]
 
-ghost use Rattle.std.specs.Prelude.{◌≡◌, ◌≤◌, ◌<◌};
+ghost use Rattle.std.specs.Prelude.{◌≡◌, ◌≤◌, ◌<◌, length, get_or};
+ghost use Rattle.laws.specs.Idioms.{Within};
 ghost use Rattle.floors.specs.Floors.{Doubled, Fits};
-ghost use Rattle.own.specs.Own.{own_of};
+ghost use Rattle.own.specs.Own.{cost_at, own_of};
 
-use prices::CoreCosts;
+use counts::Grouped;
+use prices::Priced;
 use terms::Own;
 
-// Those of the task in place i, whose core is in place p and costs so much, and which stands at `place` where the tasks are core after core: C and H,
-// the latest allowed response, RD of its core and what it meets of the others, the place of its core's first task and its own.
-pub fn own_of(
-    cores: usize,
-    cost: CoreCosts,
-    p: usize,
-    i: usize,
-    place: usize,
-    latest: &[u64; 32],
-    from: &[usize; 9],
-    doubled: &[u64; 8],
-    costs: &[u64; 33],
-    asks: &[u64; 33],
-) -> Own
-    requires p_bound { (p < 8) × (i < 32) × (place ≤ 32) }
-    requires doubled { Doubled cores from.now asks.now doubled.now × Fits cores cost.weight doubled.now }
-    ensures { result ≡ own_of cores cost latest.now from.now costs.now asks.now p i place }
+// How many tasks and cores there are, and what the cores cost each other; by the tasks' numbers the core and the latest allowed response; the tasks'
+// figures, core after core.
+#[derive(Drop)]
+pub struct Lent {
+    pub board: Priced,
+    pub core: [u8; 32],
+    pub latest: [u64; 32],
+    pub tasks: Grouped,
+}
+
+// Those of the task in place i, which stands at `place` where the tasks are core after core: C and H, the latest allowed response, RD of its core and
+// what it meets of the others, the place of its core's first task and its own.
+pub fn own_of(l: &Lent, doubled: &[u64; 8], i: usize, place: usize) -> Own
+    requires here { (i < 32) × Within 1 8 (get_or l.now.core i 0) × (place ≤ 32) }
+    requires costs_len { length l.now.board.costs ≡ 8 }
+    requires doubled { Doubled l.now.board.cores l.now.tasks.begins l.now.tasks.requests doubled.now × Fits l.now.board.cores (cost_at l.now i).weight doubled.now }
+    ensures { result ≡ own_of l.now i place }
 {
-    let delay = cost.request;
-    let weight = cost.weight;
-    let others = floors::with_floor(cores, weight, doubled);
+    let p = (l.core[i] as usize) - 1;
+    let cost = l.board.costs[p];
     Own {
-        exec: costs[place],
-        requests: asks[place],
-        latest: latest[i],
-        delay,
-        others,
-        first: from[p],
+        exec: l.tasks.execs[place],
+        requests: l.tasks.requests[place],
+        latest: l.latest[i],
+        delay: cost.request,
+        others: floors::with_floor(l.board.cores, cost.weight, doubled),
+        first: l.tasks.begins[p],
         place,
     }
 }

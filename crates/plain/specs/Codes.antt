@@ -1,7 +1,7 @@
 -- Refusals and verdicts as numbers. Assumes nothing.
 use Rattle.std.specs.Prelude.{cond, ℕ, ◌+◌, ◌*◌, ◌^◌}
 use Rattle.rules.specs.declared.Refusal.{Refusal}
-use Rattle.rules.specs.declared.Salvaged.{Salvaged}
+use Rattle.rules.specs.Results.{Salvaged}
 use Rattle.rules.specs.declared.Delay.{Delay}
 use Rattle.rules.specs.declared.Delay.TheVariants.{Request, Job}
 use Rattle.rules.specs.declared.Verdict.{Verdict}

@@ -23,19 +23,17 @@ pub fn line(file: &[u8], out: &mut [u8]) -> usize
     ensures given { Given (receipt file.now) out.old result out.new }
     ensures file_len_bound { length (receipt file.now) ≤ 29 }
 {
-    let came = arrival::whole(file);
-    if came.number != 0 {
-        return refused(came.number, out);
+    match arrival::whole(file) {
+        Ok(()) => give(b"whole\n", out),
+        Err(refusal) => refused(refusal.number, out),
     }
-    give(b"whole\n", out)
 }
 
 // 0 where a file came whole, 2 where it is refused.
 pub fn status(file: &[u8]) -> u8
     ensures { result ≡ receipt_status file.now }
 {
-    let came = arrival::whole(file);
-    if came.number != 0 {
+    if arrival::whole(file).is_err() {
         return 2;
     }
     0

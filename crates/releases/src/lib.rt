@@ -3,7 +3,36 @@
 
 ghost use Rattle.std.specs.Prelude.{◌^◌, ◌≤◌};
 ghost use Rattle.laws.specs.Idioms.{Within};
-ghost use Rattle.releases.specs.Releases.{Counted, Small};
+ghost use Rattle.releases.specs.Releases.{Counted};
+
+use std::marker::Model;
+
+// About 2^58 divided by a period, to guess a count by. What counts with it tests what it gives, so this is free to be anything that is not too large.
+#[derive(Clone, Copy)]
+pub struct Inverse(u64);
+
+impl Model for Inverse {
+    ghost use Rattle.std.specs.Prelude.{ℕ, ◌≤◌};
+
+    ghost Value = { ℕ };
+
+    ghost view = { λ a. a.0 };
+
+    ghost invariant = { λ a. a.0 ≤ 2882303762 };
+
+    ghost inverse = { λ n. record { 0 = n } };
+}
+
+impl Inverse {
+    pub const NONE: Inverse = Inverse(0);
+
+    fn of(period: u64) -> Inverse {
+        if period < 100000000 {
+            return Inverse::NONE;
+        }
+        Inverse(288230376151711744 / period)
+    }
+}
 
 // RULES 5.1: how often a task is released in t.
 fn divided(t: u64, period: u64) -> u64
@@ -13,41 +42,27 @@ fn divided(t: u64, period: u64) -> u64
     (t + (period - 1)) / period
 }
 
-// About 2^58 divided by a period. What counts with it tests what it gives, so this is free to be anything that is not too large.
-fn inverse(period: u64) -> u64
-    ensures { result ≤ 2882303762 }
+// Those of the first n periods. The places are lent, so that they are not copied.
+pub fn inverses(n: usize, periods: &[u64; 33], out: &mut [Inverse; 33])
+    requires { n ≤ 33 }
 {
-    if period < 100000000 {
-        return 0;
-    }
-    288230376151711744 / period
-}
-
-// That of the first n periods. The places are lent, so that they are not copied.
-pub fn inverses(n: usize, periods: &[u64; 33], out: &mut [u64; 33])
-    requires { (n ≤ 33) × Small out.old }
-    ensures { Small out.new }
-{
-    let mut i: usize = 0;
-    while i < n {
-        out[i] = inverse(periods[i]);
-        i += 1;
+    for i in 0..n {
+        out[i] = Inverse::of(periods[i]);
     }
 }
 
 // RULES 5.1 again: 1 where t is within one period; else guessed by a multiplication and tested; divided where the guess is wrong. A difference that
 // would be below 0, because t is 0 or the guess is too large, wraps and is no less than any period.
-pub fn up(t: u64, period: u64, inv: u64) -> u64
-    requires t_bound { (t ≤ 10 ^ 12) × Within (10 ^ 8) (10 ^ 12) period }
-    requires inv_bound { inv ≤ 2882303762 }
+pub fn up(t: u64, period: u64, inverse: Inverse) -> u64
+    requires { (t ≤ 10 ^ 12) × Within (10 ^ 8) (10 ^ 12) period }
     ensures { Counted t period result }
 {
-    let last = std::num::wrapping_sub_u64(t, 1);
+    let last = t.wrapping_sub(1);
     if last < period {
         return 1;
     }
-    let guess = ((t >> 8) * inv) >> 50;
-    let over = std::num::wrapping_sub_u64(last, guess * period);
+    let guess = ((t >> 8) * inverse.0) >> 50;
+    let over = last.wrapping_sub(guess * period);
     if over < period {
         return guess + 1;
     }

@@ -2,15 +2,17 @@
 #![tactic(auto)]
 
 ghost use Rattle.std.specs.Prelude.{◌≡◌, ◌≤◌, length};
+ghost use Rattle.rules.specs.Chain.{granted};
+ghost use Rattle.rules.specs.Results.{Salvaged, counts_of};
 ghost use Rattle.rules.specs.Listing.{report};
 ghost use Rattle.text.specs.Put.{Put, Given};
-ghost use Rattle.report.specs.Counts.{counts_line};
+ghost use Rattle.report.specs.Counts.{counts_line, reported};
 
-use rules::Salvaged;
+use rules::{Refusal, Salvage};
 use text::{give, put_phrase};
 
 // The line of the three counts, which takes at most 85 bytes.
-fn put_counts(buf: &mut [u8], r: Salvaged) -> usize
+fn put_counts(buf: &mut [u8], r: Salvage) -> usize
     requires { 85 ≤ length buf.old }
     ensures put { Put buf.old 0 (counts_line r) result buf.new }
     ensures upper_bound { result ≤ 85 }
@@ -21,14 +23,17 @@ fn put_counts(buf: &mut [u8], r: Salvaged) -> usize
 }
 
 // The report, whole, and its length; where it does not fit, nothing, and 0.
-pub fn line(r: Salvaged, out: &mut [u8]) -> usize
-    ensures given { Given (report r) out.old result out.new }
-    ensures r_len_bound { length (report r) ≤ 85 }
+pub fn line(answered: Result<Salvage, Refusal>, out: &mut [u8]) -> usize
+    ensures given { Given (reported answered) out.old result out.new }
+    ensures r_len_bound { length (reported answered) ≤ 85 }
+    ensures report { (r : Salvaged) → answered ≡ granted r.refusal (counts_of r) → reported answered ≡ report r }
 {
-    if r.refusal.number != 0 {
-        return receipt::refused(r.refusal.number, out);
+    match answered {
+        Ok(counts) => {
+            let mut made = [0u8; 85];
+            let n = put_counts(&mut made, counts);
+            give(&made[..n], out)
+        }
+        Err(refusal) => receipt::refused(refusal.number, out),
     }
-    let mut made = [0u8; 85];
-    let n = put_counts(&mut made, r);
-    give(&made[..n], out)
 }

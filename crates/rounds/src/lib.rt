@@ -1,66 +1,45 @@
-// Judgement of every task of lent columns: the rounds, and the refusals that a judgement meets on the way.
+// Judgement of the tasks of lent columns: the rounds, and the refusals that a judgement meets on the way.
 #![tactic(auto)]
 
-ghost use Rattle.std.specs.Prelude.{◌≡◌};
-ghost use Rattle.rounds.specs.Lent.{Lent, lent_of, Judgeable, judged_lent};
+ghost use Rattle.std.specs.Prelude.{◌≡◌, ◌≤◌, ◌<◌, get_or};
+ghost use Rattle.rules.specs.Chain.{granted};
+ghost use Rattle.floors.specs.Floors.{Doubled};
+ghost use Rattle.climb.specs.Run.{climbed};
+ghost use Rattle.rounds.specs.Lent.{place_at, terms_at, Judgeable, judged_lent};
 
-use basics::refused;
-use prices::Priced;
-use rules::AllJudged;
-use unjudged::{late, no_answers, unless_refused};
+use chain::refuse;
+use own::Lent;
+use rules::{Answer, Refusal};
+use unjudged::{late, no_answers};
 
-// 13 with the first start that is late; else 14 with the first that F lowers; else every task's answer. There is one way out, so that the answers are
-// not copied piece by piece.
-pub fn judge_lent(
-    board: Priced,
-    core: &[u8; 32],
-    latest: &[u64; 32],
-    starts: &[u64; 32],
-    from: &[usize; 9],
-    spans: &[u64; 33],
-    costs: &[u64; 33],
-    asks: &[u64; 33],
-) -> AllJudged
-    ghost l: { Lent }
-    requires asks_value { lent_of board core.now latest.now from.now spans.now costs.now asks.now ≡ l }
-    requires judgeable { Judgeable l }
-    ensures { result ≡ judged_lent l starts.now }
+// The task in place i, which stands at `place`, from a start that is not late: its answer, or none where F lowers the start.
+pub fn judge_at(l: &Lent, doubled: &[u64; 8], i: usize, place: usize, start: u64) -> Option<Answer>
+    requires judgeable { Judgeable l.now }
+    requires doubled { Doubled l.now.board.cores l.now.tasks.begins l.now.tasks.requests doubled.now }
+    requires here { (i < l.now.board.tasks) × (place ≡ place_at l.now i) × (start ≤ get_or l.now.latest i 0) }
+    ensures { result ≡ climbed (terms_at l.now i) start }
 {
+    let own = own::own_of(l, doubled, i, place);
+    climb::settle(own, &l.tasks, start)
+}
+
+// Every task: 13 with the first start that is late; else 14 with the first that F lowers; else the answers.
+pub fn judge_lent(l: &Lent, starts: &[u64; 32]) -> Result<[Answer; 32], Refusal>
+    requires { Judgeable l.now }
+    ensures { result ≡ granted (judged_lent l.now starts.now).refusal (judged_lent l.now starts.now).answers }
+{
+    late(l.board.tasks, &l.latest, starts)?;
+    let doubled = floors::doubled(l.board.cores, &l.tasks);
+    let mut next = l.tasks.begins;
     let mut answers = no_answers();
-    let mut refusal = late(board.tasks, latest, starts);
-    let mut end = unless_refused(refusal, board.tasks);
-    let mut invs = [0u64; 33];
-    releases::inverses(board.tasks, spans, &mut invs);
-    let doubled = floors::doubled(board.cores, from, asks);
-    let mut next = *from;
-    let mut i: usize = 0;
-    while i < end {
-        let p = (core[i] as usize) - 1;
+    for i in 0..l.board.tasks {
+        let p = (l.core[i] as usize) - 1;
         let place = next[p];
         next[p] = place + 1;
-        let cost = board.costs[p];
-        let own = own::own_of(
-            board.cores,
-            cost,
-            p,
-            i,
-            place,
-            latest,
-            from,
-            &doubled,
-            costs,
-            asks,
-        );
-        let climbed = climb::settle(own, from, spans, &invs, costs, asks, starts[i]);
-        if climbed.high {
-            refusal = refused(14, (i as u8) + 1);
-            answers = no_answers();
-            end = 0;
-        } else {
-            let answer = climbed.answer;
-            answers[i] = answer;
-        }
-        i += 1;
+        let Some(answer) = judge_at(l, &doubled, i, place, starts[i]) else {
+            return refuse(14, (i as u8) + 1);
+        };
+        answers[i] = answer;
     }
-    AllJudged { refusal, answers }
+    Ok(answers)
 }

@@ -1,5 +1,5 @@
 -- RULES 9.1: how one refusal is chosen. Assumes nothing.
-use Rattle.std.specs.Prelude.{ℕ, zero, suc, ◌+◌, Bool, cond, eqb}
+use Rattle.std.specs.Prelude.{ℕ, zero, suc, ◌+◌, Bool, cond, eqb, Result, Ok, Err}
 use Rattle.rules.specs.declared.Refusal.{Refusal}
 
 -- nothing refused; a refusal with its number and place
@@ -29,3 +29,12 @@ first_from n fault k (suc m) = cond (fault k) (refused n k) (first_from n fault 
 -- RULES 9.1: the same of places 1 to m
 abbrev pub first : ℕ → (ℕ → Bool) → ℕ → Refusal
 first n fault m = first_from n fault 1 m
+
+-- what code answers: the refusal, or where nothing is refused what is asked for
+unfoldable pub granted : {A : Type 0} → Refusal → A → Result A Refusal
+granted r x = cond (is_accepted r) (Ok x) (Err r)
+
+-- and back: the refusal that an answer has, or none
+unfoldable pub refusal_of : {A : Type 0} → Result A Refusal → Refusal
+refusal_of (Ok x) = accepted
+refusal_of (Err r) = r

@@ -3,7 +3,7 @@ use Rattle.std.specs.Prelude.{ℕ, zero, suc, ◌+◌, Bool, cond, not, ◌&&◌
 use Rattle.rules.specs.declared.Task.{Task}
 use Rattle.rules.specs.declared.Table.{Table}
 use Rattle.rules.specs.declared.Refusal.{Refusal}
-use Rattle.rules.specs.declared.Salvaged.{Salvaged}
+use Rattle.rules.specs.Results.{Salvaged}
 use Rattle.rules.specs.Kinds.{marked}
 use Rattle.rules.specs.Chain.{◌or_else◌, is_accepted, given}
 use Rattle.rules.specs.Refusals.{core_fault, time_fault, request_fault, check_board}

@@ -3,7 +3,7 @@ use mathlib.Core.Path.{◌≡◌}
 use mathlib.Core.List.{List}
 use Prim.Native.Nat.{ℕ}
 use lib.Seq.{take-append_seam, drop-append_seam}
-use Rattle.rules.specs.declared.Read.{Read}
+use Rattle.rules.specs.Results.{Read}
 use Rattle.rules.specs.Kinds.{marked}
 use Rattle.rules.specs.Chain.{accepted}
 use Rattle.rules.specs.File.{encode, form_in, first_tasks}

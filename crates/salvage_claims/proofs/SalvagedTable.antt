@@ -9,7 +9,7 @@ use lib.Seq.{take_at}
 use Rattle.laws.specs.Idioms.{part}
 use Rattle.laws.specs.Bytes.{Bytes}
 use Rattle.laws.proofs.Parts.{part_length}
-use Rattle.rules.specs.declared.Read.{Read}
+use Rattle.rules.specs.Results.{Read}
 use Rattle.rules.specs.Kinds.{marked}
 use Rattle.rules.specs.Chain.{accepted, is_accepted}
 use Rattle.rules.specs.Refusals.{check_board}

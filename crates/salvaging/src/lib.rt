@@ -2,35 +2,29 @@
 #![tactic(auto)]
 
 ghost use Rattle.std.specs.Prelude.{◌≡◌, true, false, cond, ◌+◌, ◌≤◌, eqb};
-ghost use Rattle.rules.specs.Chain.{is_accepted};
+ghost use Rattle.rules.specs.Chain.{is_accepted, granted};
 ghost use Rattle.rules.specs.Refusals.{check_board};
 ghost use Rattle.rules.specs.File.{decode};
 ghost use Rattle.rules.specs.Salvage.{ends_early, kept, salvaged_table, salvaging, salvaged_out};
 ghost use Rattle.plain.specs.Codes.{salvage_code};
 ghost use Rattle.writer.specs.Answers.{Wrote};
-ghost use Rattle.salvaging.specs.Front.{check_front, no_salvage, Salvages};
+ghost use Rattle.salvaging.specs.Front.{check_front, salvaged_by, Salvages};
 
-use basics::refused;
-use rules::{Refusal, Salvaged, Written};
+use chain::refuse_if;
+use rules::{Refusal, Salvage};
 
 // 19; 17 where the file ends before its sets do; 5 to 8 and 16.
-fn front_refusal(file: &[u8]) -> Refusal
-    ensures { result ≡ check_front file.now }
+fn front_refusal(file: &[u8]) -> Result<(), Refusal>
+    ensures { result ≡ granted (check_front file.now) tt }
 {
-    if file::check(file).number == 0 {
-        return refused(19, 0);
-    }
-    if file.len() < 4 {
-        return refused(17, 0);
-    }
-    if file.len() < places::record_at(file[3], file[0], 0) {
-        return refused(17, 0);
-    }
+    refuse_if(file::check(file).is_ok(), 19, 0)?;
+    let ends_early = file.len() < 4 || file.len() < places::record_at(file[3], file[0], 0);
+    refuse_if(ends_early, 17, 0)?;
     contents::board(file)
 }
 
 // The new file, of a file with a board and n kept records; 15 where it does not fit, and nothing changes.
-fn write_kept(file: &[u8], n: u8, out: &mut [u8]) -> Written
+fn write_kept(file: &[u8], n: u8, out: &mut [u8]) -> Result<usize, Refusal>
     requires file_value { ends_early file.now ≡ false }
     requires file_value_2 { is_accepted (check_board (decode file.now)) ≡ true }
     requires n_value { n ≡ kept file.now }
@@ -40,64 +34,43 @@ fn write_kept(file: &[u8], n: u8, out: &mut [u8]) -> Written
     writer::write(table, out)
 }
 
-// What a refused salvage gives (RULES 9.2).
-fn no_salvage(refusal: Refusal) -> Salvaged
-    ensures { result ≡ no_salvage refusal }
-{
-    Salvaged {
-        refusal,
-        length: 0,
-        promised: 0,
-        kept: 0,
-        stopped: 0,
-    }
-}
-
 // Where it stopped, with n records kept of those promised; 0 where none is lacking.
 fn stop(promised: u8, n: u8) -> u8
     requires { n ≤ promised }
     ensures { result ≡ cond (eqb n promised) 0 (n + 1) }
 {
-    if n < promised {
-        return n + 1;
-    }
-    0
+    if n < promised { n + 1 } else { 0 }
 }
 
 // Salvaging. A refusal changes nothing.
-pub fn salvage(file: &[u8], out: &mut [u8]) -> Salvaged
+pub fn salvage(file: &[u8], out: &mut [u8]) -> Result<Salvage, Refusal>
     ensures { Salvages file.now out.old result out.new }
 {
-    let refusal = front_refusal(file);
-    if refusal.number != 0 {
-        return no_salvage(refusal);
-    }
+    front_refusal(file)?;
     let promised = file[2];
-    let n = kept::count(file);
-    if n == 0 {
-        return no_salvage(refused(17, 0));
-    }
-    let written = write_kept(file, n, out);
-    if written.refusal.number != 0 {
-        return no_salvage(written.refusal);
-    }
-    Salvaged {
-        refusal: refused(0, 0),
-        length: written.length,
+    let kept = kept::count(file);
+    refuse_if(kept == 0, 17, 0)?;
+    let length = write_kept(file, kept, out)?;
+    Ok(Salvage {
+        length,
         promised,
-        kept: n,
-        stopped: stop(promised, n),
-    }
+        kept,
+        stopped: stop(promised, kept),
+    })
 }
 
 // All that salvaging tells, in one number.
-fn code(r: Salvaged) -> u64
-    requires { r.length ≤ 990 }
-    ensures { result ≡ salvage_code r }
+fn code(answered: Result<Salvage, Refusal>) -> u64
+    requires { (salvaged_by answered).length ≤ 990 }
+    ensures { result ≡ salvage_code (salvaged_by answered) }
 {
-    let refusal = r.refusal;
-    let counts = r.promised as u64 + 256 * (r.kept as u64) + 65536 * (r.stopped as u64);
-    plain::code(refusal) as u64 + 65536 * counts + 1099511627776 * (r.length as u64)
+    match answered {
+        Ok(r) => {
+            let counts = r.promised as u64 + 256 * (r.kept as u64) + 65536 * (r.stopped as u64);
+            65536 * counts + 1099511627776 * (r.length as u64)
+        }
+        Err(refusal) => plain::code(Err(refusal)) as u64,
+    }
 }
 
 // Salvaging as C has it (RULES 10.3).

@@ -17,14 +17,7 @@ fn on_side(sets: &[u16; 8], p: usize, q: usize, near: bool) -> u8
     requires { (1 ≤ p) × (p ≤ 8) × (1 ≤ q) × (q ≤ 8) }
     ensures { (result ≡ as_bit (on_side near sets.now p q)) × (result ≤ 1) }
 {
-    if q == p {
-        return 0;
-    }
-    if shares(sets[p - 1], sets[q - 1]) == near {
-        1
-    } else {
-        0
-    }
+    u8::from(q != p && shares(sets[p - 1], sets[q - 1]) == near)
 }
 
 // The cores near a core and those far from it, as bits.
@@ -42,27 +35,23 @@ fn sides_of(cores: usize, sets: &[u16; 8], p: usize) -> Sides
 {
     let mut near: u8 = 0;
     let mut far: u8 = 0;
-    let mut q = cores;
-    while 0 < q {
+    for q in (1..=cores).rev() {
         near = near * 2 + on_side(sets, p, q, true);
         far = far * 2 + on_side(sets, p, q, false);
-        q -= 1;
     }
     Sides { near, far }
 }
 
-// Those of each core.
+// Those of each core, near and far apart: `weights` reads one core's near ones, and the far ones of all.
 pub fn all_sides(cores: usize, sets: &[u16; 8], near: &mut [u8; 8], far: &mut [u8; 8])
     requires cores_bound { cores ≤ 8 }
     requires near_value { (near.old ≡ replicate 8 0) × (far.old ≡ replicate 8 0) }
     ensures near_after { near.new ≡ side_masks true cores sets.now }
     ensures far_after { far.new ≡ side_masks false cores sets.now }
 {
-    let mut p: usize = 0;
-    while p < cores {
+    for p in 0..cores {
         let both = sides_of(cores, sets, p + 1);
         near[p] = both.near;
         far[p] = both.far;
-        p += 1;
     }
 }

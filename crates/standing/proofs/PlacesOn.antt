@@ -1,5 +1,8 @@
 -- The places on a core, as a loop over the tasks meets them. Assumes nothing.
-use mathlib.Core.Path.{◌≡◌, refl, ◌∙◌}
+use Rattle.std.specs.Prelude.{◌==◌, count_by}
+use Rattle.std.proofs.lemmas.List.Sums.{length-filter}
+use Rattle.std.proofs.lemmas.List.Filters.{length-filter_more}
+use mathlib.Core.Path.{◌≡◌, refl, ap, sym, ◌∙◌}
 use mathlib.Core.Bool.{Bool, true, false, cond}
 use mathlib.Core.List.{List, [], ◌∷◌, ◌++◌, append-nil, append_assoc}
 use Prim.Native.Nat.{ℕ, zero, suc, ◌+◌, ◌-◌, ◌≤◌, ◌<◌}
@@ -8,7 +11,7 @@ use native.Mathlib.Numerals.{add-one}
 use native.Mathlib.Decide.{dec_le}
 use native.Mathlib.Omega.{arith}
 use lib.Dec.{eqb}
-use lib.ListN.{length, length-append, get_or, get_or-append}
+use lib.ListN.{length, length-append, get_or, get_or-append, take}
 use lib.Seq.{get_or-append-add}
 use borrow.Author.Tests.{eq-eqb}
 use Rattle.laws.specs.Idioms.{from, below}
@@ -31,6 +34,13 @@ module _ (core : List ℕ) (q : ℕ) where
 
   pub count_next : (n : ℕ) → length (places_on core q (n + 1)) ≡ length (places_on core q n) + cond (eqb (get_or core n 0) q) 1 0
   count_next n = rw (places_next n, length-append, one_more)
+
+  -- as many as the members that are equal to q
+  pub counted : (n : ℕ) → n ≤ length core → count_by (λ x. x == q) (take n core) ≡ length (places_on core q n)
+  counted zero h = ap length (sym places_none)
+  counted (suc n) h =
+      rw (← add-one n) (sym (length-filter (λ x. x == q) _) ∙ length-filter_more (λ x. x == q) core n 0 (omega arith)
+      ∙ rw (length-filter (λ x. x == q) (take n core), counted n (omega arith)) (sym (count_next n)))
 
   -- the first of the tasks have no more
   few-more : (i d : ℕ) → length (places_on core q i) ≤ length (places_on core q (i + d))

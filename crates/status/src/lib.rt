@@ -12,14 +12,10 @@ fn of_answers(tasks: u8, answers: [Answer; 32]) -> u8
     ensures { result ≡ cond (all_hold tasks answers) 0 1 }
 {
     let n = tasks as usize;
-    let mut k: usize = 1;
-    while k <= n {
-        let answer = answers[k - 1];
-        let verdict = answer.verdict;
-        if misses::is_miss(verdict) {
+    for i in 0..n {
+        if misses::is_miss(answers[i].verdict) {
             return 1;
         }
-        k += 1;
     }
     0
 }
@@ -28,11 +24,9 @@ fn of_answers(tasks: u8, answers: [Answer; 32]) -> u8
 pub fn of_file(file: &[u8]) -> u8
     ensures { result ≡ file_status file.now }
 {
-    let refusal = admit_file::check(file);
-    if refusal.number != 0 {
+    if admit_file::check(file).is_err() {
         return 2;
     }
-    let judged = verdicts::judge_accepted(file, [0u64; 32]);
-    let answers = judged.answers;
+    let answers = verdicts::judge_accepted(file, [0; 32]).unwrap();
     of_answers(file[2], answers)
 }

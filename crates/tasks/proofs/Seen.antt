@@ -2,8 +2,7 @@
 use Prim.Native.Nat.{ℕ, ◌+◌, ◌≤◌, ◌<◌}
 use mathlib.Core.Path.{◌≡◌, refl}
 use mathlib.Core.Bool.{Bool, true, false}
-use native.Mathlib.Omega.{arith}
-use borrow.Author.Tests.{ne_eqb}
+use Rattle.std.specs.Prelude.{Option, None, Some}
 use Rattle.rules.specs.declared.Task.{Task}
 use Rattle.rules.specs.Chain.{refused, first}
 use Rattle.rules.specs.Refusals.{core_fault, time_fault, request_fault, tasks_refusal}
@@ -12,23 +11,23 @@ use Rattle.tasks.specs.declared.Faults.{Faults}
 use Rattle.tasks.specs.Faults.{earliest, no_faults, with_task, placed, told_by}
 
 -- after i of m places: no fault yet, or the first of all
-pub data Seen (n : ℕ) (fault : ℕ → Bool) (m i : ℕ) : ℕ → Type 0 where
-  clear : Left n fault m i → Seen n fault m i 0
-  found : {x : ℕ} → 1 ≤ x → refused n x ≡ first n fault m → Seen n fault m i x
+pub data Seen (n : ℕ) (fault : ℕ → Bool) (m i : ℕ) : Option ℕ → Type 0 where
+  clear : Left n fault m i → Seen n fault m i None
+  found : {x : ℕ} → refused n x ≡ first n fault m → Seen n fault m i (Some x)
 
 module _ {n : ℕ} {fault : ℕ → Bool} {m i : ℕ} where
-  seen_next : {x : ℕ} → Seen n fault m i x → i < m → Seen n fault m (i + 1) (earliest x (i + 1) (fault (i + 1)))
+  seen_next : {x : Option ℕ} → Seen n fault m i x → i < m → Seen n fault m (i + 1) (earliest x (i + 1) (fault (i + 1)))
   unfolding earliest
   seen_next (clear left) h = go (fault (i + 1)) refl
     where
-      go : (b : Bool) → fault (i + 1) ≡ b → Seen n fault m (i + 1) (earliest 0 (i + 1) b)
-      go true e = found {x = i + 1} (omega arith) (left-hit n fault m i left h e)
+      go : (b : Bool) → fault (i + 1) ≡ b → Seen n fault m (i + 1) (earliest None (i + 1) b)
+      go true e = found {x = i + 1} (left-hit n fault m i left h e)
       go false e = clear (left-next n fault m i left h e)
-  seen_next (found {x = x} some e) h = rw (ne_eqb x 0 (λ z. omega arith)) (found some e)
+  seen_next (found {x = x} e) h = found e
 
-  seen_told : {x : ℕ} → Seen n fault m i x → m ≤ i → placed n x ≡ first n fault m
+  seen_told : {x : Option ℕ} → Seen n fault m i x → m ≤ i → placed n x ≡ first n fault m
   seen_told (clear left) h = left-none n fault m i left h
-  seen_told (found {x = x} some e) h = rw (ne_eqb x 0 (λ z. omega arith)) e
+  seen_told (found {x = x} e) h = e
 
 -- of the tasks by their numbers
 pub record SeenAll (cores : ℕ) (task : ℕ → Task) (m i : ℕ) (s : Faults) : Type 0 where

@@ -2,6 +2,7 @@
 use Rattle.std.specs.Prelude.{ℕ, ◌+◌, ◌*◌, ◌≤◌, ◌^◌, min, cond, List, leb}
 use Rattle.rules.specs.declared.Delay.{Delay}
 use Rattle.rules.specs.declared.Delay.TheVariants.{Request, Job}
+use Rattle.counts.specs.declared.Grouped.{Grouped}
 use Rattle.counts.specs.Counts.{asked_by, Slots}
 use Rattle.job.specs.Job.{Groups, job_by}
 use Rattle.terms.specs.declared.Own.{Own}
@@ -17,6 +18,9 @@ pub record Terms : Type 0 where
 
 abbrev pub terms_of : Own → List ℕ → List ℕ → List ℕ → List ℕ → Terms
 terms_of own begins periods execs asks = record { own = own; begins = begins; periods = periods; execs = execs; asks = asks }
+
+abbrev pub terms_in : Own → Grouped → Terms
+terms_in own tasks = terms_of own tasks.begins tasks.periods tasks.execs tasks.requests
 
 -- what the higher tasks of the core ask for: those from the first of the core to the task itself
 abbrev pub above_of : Terms → List ℕ → ℕ → ℕ

@@ -2,27 +2,20 @@
 #![tactic(auto)]
 
 ghost use Rattle.std.specs.Prelude.{◌≡◌, ◌*◌, ◌^◌, ◌≤◌, min};
-ghost use Rattle.releases.specs.Releases.{Small};
-ghost use Rattle.terms.specs.Terms.{Fair, terms_of, applied};
+ghost use Rattle.terms.specs.Terms.{Fair, terms_in, applied};
 
+use counts::Grouped;
 use floors::Others;
 use rules::{Delay, Picos};
 
-// The product, or the largest u64 where it is larger than that. Two numbers below 2^32 need no test.
+// The product, or the largest u64 where it is larger than that. The test stays before `saturating_mul`: without it a round takes 4 to 25 % longer.
 fn capped(a: u64, b: u64) -> u64
     ensures { result ≡ min (a * b) 18446744073709551615 }
 {
     if a < 4294967296 && b < 4294967296 {
         return a * b;
     }
-    if b == 0 {
-        return 0;
-    }
-    if a <= 18446744073709551615 / b {
-        a * b
-    } else {
-        18446744073709551615
-    }
+    a.saturating_mul(b)
 }
 
 // The judged task's own figures: C, H and the latest allowed response; RD of its core, and what it meets of the others; the place of its core's first
@@ -46,25 +39,17 @@ pub struct Applied {
 }
 
 // F. Request may be far above 64 bits; capped, it is above job where it was. Of job as much is added up as decides.
-pub fn apply(
-    own: Own,
-    from: &[usize; 9],
-    periods: &[u64; 33],
-    invs: &[u64; 33],
-    execs: &[u64; 33],
-    asks: &[u64; 33],
-    t: u64,
-) -> Applied
-    requires t_bound { (t ≤ 10 ^ 12) × Small invs.now }
-    requires fair { Fair (terms_of own from.now periods.now execs.now asks.now) }
-    ensures { result ≡ applied (terms_of own from.now periods.now execs.now asks.now) t }
+pub fn apply(own: &Own, tasks: &Grouped, t: u64) -> Applied
+    requires t_bound { t ≤ 10 ^ 12 }
+    requires fair { Fair (terms_in own.now tasks.now) }
+    ensures { result ≡ applied (terms_in own.now tasks.now) t }
 {
-    let higher = counts::asked_higher(own.first, own.place, periods, invs, execs, asks, t);
+    let higher = counts::asked_higher(own.first, own.place, tasks, t);
     let exec = own.exec + higher.execs;
     let requests = own.requests + higher.requests;
     let delay = own.delay.0;
     let request = capped(delay, requests);
-    let job = job::reached(own.others, request, from, periods, invs, asks, t);
+    let job = job::reached(&own.others, request, tasks, t);
     if request <= job {
         Applied {
             time: exec + request,

@@ -3,10 +3,10 @@
 
 ghost use Rattle.std.specs.Prelude.{◌≡◌, ◌%◌, ◌≤◌};
 ghost use Rattle.rules.specs.Timing.{ddr3_1333};
-ghost use Rattle.rules.specs.Chain.{first};
+ghost use Rattle.rules.specs.Chain.{first, granted};
 ghost use Rattle.rules.specs.Refusals.{relation_fault, check_timing, bus_fault, check_bus};
 
-use basics::refused;
+use chain::refuse_first;
 use cycles::{Timing, figure};
 use ranges::check_ranges;
 use rules::Refusal;
@@ -27,71 +27,47 @@ fn remainder(a: u64, b: u64) -> u64
     if b == 0 { a } else { a % b }
 }
 
-// Is relation k of RULES 2.5 broken?
+// Is relation k of RULES 2.5 broken? The number is the document's and the refusal's place (`check_timing`), so it is no enum's.
 fn relation_fault(row: [u16; 15], k: u8) -> bool
     requires { (1 ≤ k) × (k ≤ 5) }
     ensures { result ≡ relation_fault row k }
 {
-    if k == 1 {
-        return figure(row, Timing::Twr) < figure(row, Timing::Twtr);
+    match k {
+        1 => figure(row, Timing::Twr) < figure(row, Timing::Twtr),
+        2 => cycles::turn(row) < figure(row, Timing::Cl),
+        3 => figure(row, Timing::Cl) + figure(row, Timing::Bl) / 2 + 2 <= figure(row, Timing::Trtp),
+        4 => figure(row, Timing::Trcd) + hits::hit(row).0 <= figure(row, Timing::Tras),
+        _ => remainder(figure(row, Timing::Ncols), figure(row, Timing::Bl)) != 0,
     }
-    if k == 2 {
-        return cycles::turn(row) < figure(row, Timing::Cl);
-    }
-    if k == 3 {
-        return figure(row, Timing::Cl) + figure(row, Timing::Bl) / 2 + 2
-            <= figure(row, Timing::Trtp);
-    }
-    if k == 4 {
-        return figure(row, Timing::Trcd) + hits::hit(row).0 <= figure(row, Timing::Tras);
-    }
-    remainder(figure(row, Timing::Ncols), figure(row, Timing::Bl)) != 0
 }
 
 // Refusal 7 (RULES 9.3), with the first relation at fault.
-fn check_relations(row: [u16; 15]) -> Refusal
-    ensures { result ≡ first 7 (relation_fault row) 5 }
+fn check_relations(row: [u16; 15]) -> Result<(), Refusal>
+    ensures { result ≡ granted (first 7 (relation_fault row) 5) tt }
 {
-    let mut i: u8 = 0;
-    while i < 5 {
-        if relation_fault(row, i + 1) {
-            return refused(7, i + 1);
-        }
-        i += 1;
-    }
-    refused(0, 0)
+    refuse_first(7, 5, |k| relation_fault(row, k))
 }
 
 // 6, then 7, of a DRAM's row.
-pub fn check(row: [u16; 15]) -> Refusal
-    ensures { result ≡ check_timing row }
+pub fn check(row: [u16; 15]) -> Result<(), Refusal>
+    ensures { result ≡ granted (check_timing row) tt }
 {
-    let ranges = check_ranges(row);
-    if ranges.number != 0 {
-        return ranges;
-    }
+    check_ranges(row)?;
     check_relations(row)
 }
 
 // Is figure k of a bus's row at fault (RULES 2.8)? The first is s, the others have to be 0.
-fn bus_fault(row: [u16; 15], k: usize) -> bool
+fn bus_fault(row: [u16; 15], k: u8) -> bool
     requires { (1 ≤ k) × (k ≤ 15) }
     ensures { result ≡ bus_fault row k }
 {
-    let x = row[k - 1];
+    let x = row[k as usize - 1];
     if k == 1 { x == 0 } else { x != 0 }
 }
 
 // 16 (RULES 9.3) of a bus's row, with the first figure at fault.
-pub fn check_bus(row: [u16; 15]) -> Refusal
-    ensures { result ≡ check_bus row }
+pub fn check_bus(row: [u16; 15]) -> Result<(), Refusal>
+    ensures { result ≡ granted (check_bus row) tt }
 {
-    let mut i: usize = 0;
-    while i < 15 {
-        if bus_fault(row, i + 1) {
-            return refused(16, (i + 1) as u8);
-        }
-        i += 1;
-    }
-    refused(0, 0)
+    refuse_first(16, 15, |k| bus_fault(row, k))
 }

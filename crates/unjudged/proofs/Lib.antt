@@ -1,3 +1,3 @@
 -- The laws that the proofs of this crate cite, and those of callers.
---     OnTime   the first late start
+--     OnTime  where no start is late, each is on time
 pub mod OnTime

@@ -1,3 +1,3 @@
 -- What the contracts of this crate cite beside the rules.
---     Unjudged  starts that come too late, and what a refused judgement gives
+--     Unjudged  starts that come too late
 pub mod Unjudged

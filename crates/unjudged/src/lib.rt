@@ -1,31 +1,33 @@
-// Starts that come after the latest allowed response, and what is given where no task is judged.
+// Starts that come after the latest allowed response, and the answers where no task is judged.
 #![tactic(auto)]
 
-ghost use Rattle.std.specs.Prelude.{◌≡◌, cond, ◌≤◌};
+ghost use Rattle.std.specs.Prelude.{◌≡◌, ◌≤◌, ltb};
+ghost use Rattle.laws.specs.Idioms.{Within, entry};
 ghost use Rattle.rules.specs.Judgement.{misses};
-ghost use Rattle.rules.specs.Chain.{is_accepted};
+ghost use Rattle.rules.specs.Chain.{granted};
 ghost use Rattle.rules.specs.Operations.{no_answers};
-ghost use Rattle.unjudged.specs.Unjudged.{first_after, none_judged};
+ghost use Rattle.unjudged.specs.Unjudged.{first_after};
 
-use basics::refused;
-use rules::{AllJudged, Answer, Refusal, Verdict};
+use chain::refuse_first;
+use rules::{Answer, Refusal, Verdict};
 
-// 13 for the first start that is after the latest allowed response.
-pub fn late(n: usize, latest: &[u64; 32], starts: &[u64; 32]) -> Refusal
-    requires { n ≤ 32 }
-    ensures { result ≡ first_after n latest.now starts.now }
+fn is_late(k: u8, latest: &[u64; 32], starts: &[u64; 32]) -> bool
+    requires { Within 1 32 k }
+    ensures { result ≡ ltb (entry 0 latest.now k) (entry 0 starts.now k) }
 {
-    let mut i: usize = 0;
-    while i < n {
-        if latest[i] < starts[i] {
-            return refused(13, (i as u8) + 1);
-        }
-        i += 1;
-    }
-    refused(0, 0)
+    let i = k as usize - 1;
+    latest[i] < starts[i]
 }
 
-pub fn missed() -> Answer
+// 13 for the first start that is after the latest allowed response.
+pub fn late(n: usize, latest: &[u64; 32], starts: &[u64; 32]) -> Result<(), Refusal>
+    requires { n ≤ 32 }
+    ensures { result ≡ granted (first_after n latest.now starts.now) tt }
+{
+    refuse_first(13, n as u8, |k| is_late(k, latest, starts))
+}
+
+fn missed() -> Answer
     ensures { result ≡ misses 0 }
 {
     Answer {
@@ -38,22 +40,5 @@ pub fn missed() -> Answer
 pub fn no_answers() -> [Answer; 32]
     ensures { result ≡ no_answers }
 {
-    let miss = missed();
-    let none = [miss; 32];
-    none
-}
-
-// A refused judgement of all.
-pub fn none_judged(refusal: Refusal) -> AllJudged
-    ensures { result ≡ none_judged refusal }
-{
-    let answers = no_answers();
-    AllJudged { refusal, answers }
-}
-
-// n where nothing is refused, else 0.
-pub fn unless_refused(refusal: Refusal, n: usize) -> usize
-    ensures { result ≡ cond (is_accepted refusal) n 0 }
-{
-    if refusal.number == 0 { n } else { 0 }
+    [missed(); 32]
 }

@@ -3,7 +3,7 @@ use mathlib.Core.Path.{◌≡◌, refl, ap, fun_ext, sym}
 use mathlib.Core.Bool.{Bool, true, false, cond, ◌&&◌}
 use mathlib.Core.List.{List, [], ◌∷◌}
 use Prim.Native.Nat.{ℕ, ◌+◌, ◌*◌, ◌-◌, ◌/◌, ◌%◌, ◌^◌, ◌≤◌}
-use native.Mathlib.Nat.{mul-le-mul, one-mul, mul-le-mul_right, zero-div}
+use native.Mathlib.Nat.{one-mul, zero-div}
 use native.Mathlib.Decide.{ℕ_discrete}
 use native.Mathlib.Omega.{arith}
 use borrow.Author.Tests.{ne_eqb, eq-eqb}
@@ -17,7 +17,7 @@ use Rattle.rules.specs.Dram.{crossing, conflict, inter, intra, RD}
 use Rattle.facts.specs.Prices.{weight}
 use Rattle.facts.proofs.Weights.{share_comm, by_weights}
 use Rattle.delays.specs.declared.Figures.{Figures}
-use Rattle.delays.specs.Figures.{figures_of, FiguresBounded}
+use Rattle.delays.specs.Figures.{figures_of}
 use Rattle.sides.specs.Masks.{as_bit, mask, side_masks}
 use Rattle.weights.specs.Shows.{Shows}
 use Rattle.laws.specs.Idioms.{sum_over, those, up_to, entry, is_empty}
@@ -104,11 +104,6 @@ module _ {p nears : ℕ} {fars : List ℕ} {f : Figures} {t : Table} (s : Shows 
       let all = rw (none, and_zero_l (entry 0 fars q), zero-div (2 ^ (q - 1))) at (weighed q lowp highp low high) in
       omega (arith, all)
 
--- no more than nine crossings and a conflict
-pub charge_high : {f : Figures} → FiguresBounded f → (n k : ℕ) → n ≤ 9 → k ≤ 1 → n * f.crossing.0 + k * f.conflict.0 ≤ 3 * 10 ^ 7
-charge_high b n k few one =
-    omega (arith, mul-le-mul {n₂ = 9} {m₂ = 390 * 5000} few b.crossing-high, mul-le-mul {n₂ = 1} {m₂ = 516 * 5000} one b.conflict-high)
-
 -- ---- RD
 
 -- what RD has beside one request of each core
@@ -145,10 +140,3 @@ module _ {p nears : ℕ} {fars : List ℕ} {f : Figures} {t : Table} (s : Shows 
 
   pub RD-some : (nears ≡ 0 → ⊥) → 1 ≤ p → p ≤ t.cores → f.run.0 + f.window * f.readwrite.0 * ones (entry 0 fars p) + f.reopen.0 + weights ≡ RD t p
   RD-some some low high = rw (RD_by_weights, ← none-near, ne_eqb nears 0 some, far-count low high, s.figures_are, sum)
-
-pub row-high : {f : Figures} → FiguresBounded f → (n : ℕ)
-    → (f.window * f.readwrite.0 ≤ 7 * 10 ^ 8) × (f.run.0 + f.window * f.readwrite.0 * n + f.reopen.0 ≤ 5 * 10 ^ 8 + 7 * 10 ^ 8 * n)
-row-high {f} b n =
-    let each : f.window * f.readwrite.0 ≤ 512 * (262 * 5000) = mul-le-mul b.window-high b.readwrite-high in
-    let all : f.window * f.readwrite.0 * n ≤ 512 * (262 * 5000) * n = mul-le-mul_right n each in
-    (omega arith, omega (arith, b.run-high, b.reopen-high))

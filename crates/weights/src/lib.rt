@@ -16,7 +16,7 @@ use delays::Figures;
 fn count(bits: u8) -> u64
     ensures { (result ≡ ones bits) × (result ≤ 8) }
 {
-    u8::count_ones(bits) as u64
+    u64::from(bits.count_ones())
 }
 
 // The bit of core q.
@@ -24,7 +24,7 @@ fn bit(bits: u8, q: usize) -> u64
     requires { (1 ≤ q) × (q ≤ 8) }
     ensures { (result ≡ bits / 2 ^ (q - 1) % 2) × (result ≤ 1) }
 {
-    ((bits >> (q - 1)) % 2) as u64
+    u64::from((bits >> (q - 1)) % 2)
 }
 
 // What one request of core q costs a job of core p: a crossing if q is far, a conflict if it is near, and a crossing for each core near p

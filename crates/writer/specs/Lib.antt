@@ -1,3 +1,3 @@
 -- What writing promises.
---     Answers  what a refused writing answers, and the answer with the buffer's bytes afterwards
+--     Answers  the answer with the buffer's bytes afterwards
 pub mod Answers

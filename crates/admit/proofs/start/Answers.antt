@@ -1,41 +1,42 @@
 -- The refusals before a judgement of one task, in their order. Assumes nothing.
-use borrow.Author.Rules.{rules}
-use mathlib.Core.Path.{◌≡◌, ◌∙◌}
-use mathlib.Core.Bool.{true}
+use Prim.Native.Nat.{◌≤◌}
+use mathlib.Core.Path.{sym, ◌∙◌}
 use native.Mathlib.Omega.{arith}
-use Rattle.rules.specs.Chain.{is_accepted}
-use Rattle.rules.specs.Refusals.{check_judged}
+use borrow.Author.Tests.{not-false}
+use Rattle.laws.proofs.Tests.{inside}
+use Rattle.rules.specs.Refusals.{asked_fault, late_start, check_start}
 use Rattle.facts.proofs.Starts.{judged-sound}
-use Rattle.facts.proofs.Chain.{passes, refuses}
-use Rattle.admit.proofs.Links.{start-table, start-low, start-high, start-late, start-passes}
-use Rattle.admit.proofs.start.Goals.{Else-refusal-ne0}
+use Rattle.facts.proofs.Chain.{stops_at, goes_on_to, was-allowed, was-faultless}
+use Rattle.chain.proofs.Walk.{stays}
+use Rattle.admit.proofs.start.Goals.{In_ok-refuse_if}
 use Rattle.admit.proofs.start.Goals as goal
 
--- past the table's own refusals
-table-passes : (c : Else-refusal-ne0) → is_accepted (check_judged c.args.t) ≡ true
-table-passes c = passes c.table-refusal.ensures c.if-refusal-ne0.false
+-- past refusal 12
+is-asked : (c : In_ok-refuse_if) → (1 ≤ c.args.k) × (c.args.k ≤ c.args.t.tasks)
+is-asked c =
+    let fine = not-false _ (sym c.outside.ensures ∙ was-faultless 12 0 _ _ (omega arith) c.in_ok-refuse_if.ensures) in
+    let h = inside 1 c.args.t.tasks c.args.k fine in
+    (h.low, h.high)
 
-pub returns-then-refusal-ne0 : goal.returns-then-refusal-ne0
-returns-then-refusal-ne0 c =
-    let a = c.args in
-    let e = c.table-refusal.ensures in
-    e ∙ start-table a.t a.k a.start.0 (refuses e c.if-refusal-ne0.true)
+pub returns-in_err-table : goal.returns-in_err-table
+unfolding check_start
+returns-in_err-table c = stops_at _ _ _ _ c.from_residual.ensures.1 (stays _ _ _ c.in_err-table.ensures)
 
-pub returns-then-k-eq0 : goal.returns-then-k-eq0
-returns-then-k-eq0 c = let a = c.args in c.refused.ensures ∙ start-low a.t a.k a.start.0 (table-passes (goal.at.returns-then-k-eq0 c).Else-refusal-ne0) (search rules)
+pub returns-in_err-refuse_if : goal.returns-in_err-refuse_if
+unfolding check_start asked_fault
+returns-in_err-refuse_if c =
+    stops_at _ _ _ _ c.from_residual-in_err-refuse_if.ensures.1
+    (goes_on_to _ _ _ _ c.in_ok-table.ensures (rw c.outside.ensures at c.in_err-refuse_if.ensures))
 
-pub returns-then-t-k : goal.returns-then-t-k
-returns-then-t-k c = let a = c.args in c.refused-then-t-k.ensures ∙ start-high a.t a.k a.start.0 (table-passes (goal.at.returns-then-t-k c).Else-refusal-ne0) (search rules)
+pub overflow_sub-task : goal.overflow_sub-task
+overflow_sub-task c = (is-asked (goal.at.overflow_sub-task c).In_ok-refuse_if).0
 
-pub bounds-t-i : goal.bounds-t-i
-bounds-t-i c = omega (arith, (judged-sound c.args.t (table-passes (goal.at.bounds-t-i c).Else-refusal-ne0)).tasks-in.high)
-
-pub returns-then-latest-start : goal.returns-then-latest-start
-returns-then-latest-start c =
-    let a = c.args in
-    c.refused-then-latest-start.ensures ∙ start-late a.t a.k a.start.0 (table-passes (goal.at.returns-then-latest-start c).Else-refusal-ne0) (search rules) (search rules) (omega (arith, c.latest.ensures))
+pub bounds-t-k : goal.bounds-t-k
+bounds-t-k c =
+    let k = is-asked (goal.at.bounds-t-k c).In_ok-refuse_if in
+    omega (arith, k.0, k.1, (judged-sound c.args.t (was-allowed _ _ (sym c.in_ok-table.ensures)).0).tasks-in.high)
 
 pub returns : goal.returns
+unfolding check_start asked_fault late_start
 returns c =
-    let a = c.args in
-    c.refused-2.ensures ∙ start-passes a.t a.k a.start.0 (table-passes (goal.at.returns c).Else-refusal-ne0) (search rules) (search rules) (omega (arith, c.latest.ensures))
+    goes_on_to _ _ _ _ (goes_on_to _ _ _ _ c.in_ok-table.ensures (rw c.outside.ensures at c.in_ok-refuse_if.ensures)) (rw c.latest.ensures at c.refuse_if-2.ensures)

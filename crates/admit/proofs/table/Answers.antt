@@ -1,23 +1,12 @@
 -- The checks before every judgement, in their order. Assumes nothing.
-use mathlib.Core.Path.{◌≡◌, sym, ◌∙◌}
-use mathlib.Core.Bool.{true}
-use Rattle.rules.specs.Chain.{is_accepted}
-use Rattle.rules.specs.Refusals.{check_table}
-use Rattle.facts.proofs.Chain.{passes, refuses}
-use Rattle.admit.proofs.Links.{judged-refused, judged-salvaged, judged-passes}
-use Rattle.admit.proofs.table.Goals.{After-says_salvaged}
+use Rattle.rules.specs.Refusals.{check_judged}
+use Rattle.facts.proofs.Chain.{stops_at, goes_on_to}
 use Rattle.admit.proofs.table.Goals as goal
 
-table-passes : (c : After-says_salvaged) → is_accepted (check_table c.args.t) ≡ true
-table-passes c = passes c.check-refusal.ensures c.if-refusal-ne0.false
-
-pub returns-then-refusal-ne0 : goal.returns-then-refusal-ne0
-returns-then-refusal-ne0 c = let e = c.check-refusal.ensures in e ∙ judged-refused _ (refuses e c.if-refusal-ne0.true)
-
-pub returns-then-says_salvaged : goal.returns-then-says_salvaged
-returns-then-says_salvaged c =
-    c.refused.ensures ∙ judged-salvaged _ (table-passes (goal.at.returns-then-says_salvaged c).After-says_salvaged) (sym c.says_salvaged.ensures ∙ c.if-says_salvaged.true)
+pub returns-in_err-check : goal.returns-in_err-check
+unfolding check_judged
+returns-in_err-check c = stops_at _ _ _ _ c.from_residual.ensures.1 c.in_err-check.ensures
 
 pub returns : goal.returns
-returns c =
-    c.refused-2.ensures ∙ judged-passes _ (table-passes (goal.at.returns c).After-says_salvaged) (sym c.says_salvaged.ensures ∙ c.if-says_salvaged.false)
+unfolding check_judged
+returns c = goes_on_to _ _ _ _ c.in_ok-check.ensures (rw c.says_salvaged.ensures at c.refuse_if.ensures)

@@ -10,17 +10,15 @@ use Rattle.after.proofs.Either.{answers-carried, answers-fresh}
 use Rattle.facts.proofs.AllStarts.{all-fresh, all-carried, carried-answers, fresh-starts}
 use Rattle.after.proofs.answers_after.Goals as goal
 
-pub answers-requires-2 : goal.answers-requires-2
-answers-requires-2 c = let is = c.requires.newer_value in record { table_value = is; all_allowed = all-fresh c.args.newer (judged-accepted _ is) }
+pub answers-requires-2-clause-all_allowed : goal.answers-requires-2-clause-all_allowed
+answers-requires-2-clause-all_allowed c = all-fresh c.args.newer (judged-accepted _ c.requires.newer_value)
 
-pub older_starts-starts-requires : goal.older_starts-starts-requires
-older_starts-starts-requires c = c.requires.older_value
-
-pub answers-requires : goal.answers-requires
-answers-requires c = let was = c.requires.older_value in
+pub answers-requires-clause-all_allowed : goal.answers-requires-clause-all_allowed
+answers-requires-clause-all_allowed c =
+    let was = c.requires.older_value in
     let is = c.requires.newer_value in
     let so = c.requires.carried_value in
-    record { table_value = is; all_allowed = rw c.older_starts-starts.ensures (all-carried c.args.older c.args.newer (judged-accepted _ was) (judged-accepted _ is) (sym so ∙ c.if-carried.true)) }
+    rw c.older_starts.ensures (all-carried c.args.older c.args.newer (judged-accepted _ was) (judged-accepted _ is) (sym so ∙ c.if-carried.true))
 
 pub returns-then-carried : goal.returns-then-carried
 returns-then-carried c =
@@ -29,7 +27,7 @@ returns-then-carried c =
     let so = c.requires.carried_value in
     let worse = sym so ∙ c.if-carried.true in
     c.answers.ensures
-    ∙ ap (λ (l : List ℕ). answers_from c.args.newer (entry 0 l)) c.older_starts-starts.ensures
+    ∙ ap (λ (l : List ℕ). answers_from c.args.newer (entry 0 l)) c.older_starts.ensures
     ∙ carried-answers c.args.older c.args.newer (judged-accepted _ was) (judged-accepted _ is) worse
     ∙ answers-carried c.args.older c.args.newer was is worse
 

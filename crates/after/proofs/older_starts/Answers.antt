@@ -1,12 +1,9 @@
 -- The starts that the older answers give, place by place. Assumes nothing.
-use borrow.Author.Rules.{rules}
 use mathlib.Core.Path.{◌≡◌, ◌∙◌, ap}
 use native.Mathlib.Omega.{arith}
 use lib.ListN.{length}
 use lib.Seq.{take_all}
-use Rattle.rules.specs.Judgement.{misses}
 use Rattle.rules.specs.Operations.{answers_from, fresh}
-use Rattle.starts.proofs.Column.{column-none, column-next}
 use Rattle.facts.proofs.AllStarts.{all-fresh, answers-long, fresh-starts, bounds_of_answers}
 use Rattle.facts.proofs.Starts.{judged-accepted}
 use Rattle.facts.proofs.LentStarts.{answers-same}
@@ -19,20 +16,12 @@ all-answers c = c.answers-all.ensures ∙ answers-same c.args.older _ fresh (λ 
 all-long : (c : At-loop-i) → length c.answers-all.result ≡ 32
 all-long c = ap length (all-answers c) ∙ answers-long c.args.older (judged-accepted _ c.requires) fresh
 
-pub answers-all-requires : goal.answers-all-requires
-answers-all-requires c = record { table_value = c.requires; all_allowed = all-fresh c.args.older (judged-accepted _ c.requires) }
-
-pub loop-i-preserved : goal.loop-i-preserved
-loop-i-preserved c =
-    let long = all-long (goal.at.loop-i-preserved c).At-loop-i in
-    (search rules, rw c.bound_of.ensures (column-next (misses 0) c.loop-i.invariant.1 (omega arith) (omega arith)))
+pub answers-all-requires-clause-all_allowed : goal.answers-all-requires-clause-all_allowed
+answers-all-requires-clause-all_allowed c = all-fresh c.args.older (judged-accepted _ c.requires)
 
 pub returns : goal.returns
 returns c =
     let l = c.loop-i in
     let e : l.i ≡ 32 = omega arith in
-    let h = rw e at l.invariant.1.is in
-    rw (← bounds_of_answers c.args.older, ← all-answers (goal.at.returns c).At-loop-i) (rw (take_all 32 l.starts (omega (arith, l.invariant.1.long)), take_all 32 c.answers-all.result (omega (arith, all-long (goal.at.returns c).At-loop-i))) at h)
-
-pub loop-i-init : goal.loop-i-init
-loop-i-init c = (search rules, column-none)
+    let h = rw e at l.invariant.is in
+    rw (← bounds_of_answers c.args.older, ← all-answers (goal.at.returns c).At-loop-i) (rw (take_all 32 l.starts (omega (arith, l.invariant.long)), take_all 32 c.answers-all.result (omega (arith, all-long (goal.at.returns c).At-loop-i))) at h)

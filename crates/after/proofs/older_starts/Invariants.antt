@@ -1,12 +1,8 @@
 -- The starts that the older answers give, place by place. Assumes nothing.
-use Prim.Native.Nat.{◌≤◌, ◌-◌}
 use Rattle.rules.specs.declared.Answer.{Answer}
 use Rattle.rules.specs.Judgement.{bound_of}
 use Rattle.starts.proofs.Column.{Column}
 use Rattle.after.proofs.older_starts.Given as goal
 
 abbrev pub invariant-loop-i : goal.invariant-loop-i
-invariant-loop-i l = (l.i ≤ 32) × Column (λ (a : Answer). bound_of a.verdict) l.all 32 l.i l.starts
-
-abbrev pub decreases-loop-i : goal.decreases-loop-i
-decreases-loop-i l = 32 - l.i
+invariant-loop-i l = Column (λ (a : Answer). bound_of a.verdict) l.all 32 l.i l.starts

@@ -26,9 +26,6 @@ pub returns-then-says_bus : goal.returns-then-says_bus
 returns-then-says_bus c t fourth cores sets row =
     c.all_costs.ensures t cores row ∙ of-bus t (ap says_bus fourth ∙ sym c.says_bus.ensures ∙ c.if-says_bus.true)
 
-pub all_costs-requires-2 : goal.all_costs-requires-2
-all_costs-requires-2 c = (c.requires.0, c.requires.1 (sym c.says_bus.ensures ∙ c.if-says_bus.false))
-
 pub returns : goal.returns
 returns c t fourth cores sets row =
     c.all_costs-2.ensures t cores sets row ∙ of-dram t (ap says_bus fourth ∙ sym c.says_bus.ensures ∙ c.if-says_bus.false)

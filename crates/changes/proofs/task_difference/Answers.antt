@@ -1,33 +1,21 @@
 -- A task's figures, one after the other. Assumes nothing.
-use borrow.Author.Tests.{eq-eqb, ne_eqb, le-leb, lt-leb}
-use Rattle.changes.specs.Difference.{◌or_else◌, task_difference}
+use borrow.Author.Rules.{rules}
+use Rattle.rules.specs.Tasks.{C, T, D, H}
+use Rattle.changes.specs.declared.Figure.TheVariants.{Deadline, Exec, Requests, Period}
+use Rattle.changes.specs.Difference.{unequal, lower, longer, task_difference}
+use Rattle.changes.proofs.First.{either}
 use Rattle.changes.proofs.task_difference.Goals as goal
 
-pub returns-then-i-j : goal.returns-then-i-j
-unfolding task_difference ◌or_else◌
-returns-then-i-j c = rw c.at_fault.ensures (simp (ne_eqb _ _ c.if-i-j.true))
-
-pub returns-then-i-j-2 : goal.returns-then-i-j-2
-unfolding task_difference ◌or_else◌
-returns-then-i-j-2 c =
-    rw c.at_fault-then-i-j-2.ensures (simp (eq-eqb _ _ c.if-i-j.false, ne_eqb _ _ c.if-i-j-2.true))
-
-pub returns-then-j-i : goal.returns-then-j-i
-unfolding task_difference ◌or_else◌
-returns-then-j-i c =
-    rw c.at_fault-then-j-i.ensures (simp (eq-eqb _ _ c.if-i-j.false, eq-eqb _ _ c.if-i-j-2.false, lt-leb _ _ c.if-j-i.true))
-
-pub returns-then-j-i-2 : goal.returns-then-j-i-2
-unfolding task_difference ◌or_else◌
-returns-then-j-i-2 c =
-    rw c.at_fault-then-j-i-2.ensures (simp (eq-eqb _ _ c.if-i-j.false, eq-eqb _ _ c.if-i-j-2.false, le-leb _ _ c.if-j-i.false, lt-leb _ _ c.if-j-i-2.true))
-
-pub returns-then-i-j-3 : goal.returns-then-i-j-3
-unfolding task_difference ◌or_else◌
-returns-then-i-j-3 c =
-    rw c.at_fault-then-i-j-3.ensures (simp (eq-eqb _ _ c.if-i-j.false, eq-eqb _ _ c.if-i-j-2.false, le-leb _ _ c.if-j-i.false, le-leb _ _ c.if-j-i-2.false, lt-leb _ _ c.if-i-j-3.true))
-
 pub returns : goal.returns
-unfolding task_difference ◌or_else◌
+unfolding task_difference
 returns c =
-    rw c.nothing.ensures (simp (eq-eqb _ _ c.if-i-j.false, eq-eqb _ _ c.if-i-j-2.false, le-leb _ _ c.if-j-i.false, le-leb _ _ c.if-j-i-2.false, le-leb _ _ c.if-i-j-3.false))
+    let k = c.args.k in
+    let i = c.args.i in
+    let j = c.args.j in
+    rw (
+      either c.or_else-3.result (longer Period k (T i) (T j)) c.or_else-4.ensures (λ post. search rules),
+      either c.or_else-2.result (lower Requests k (H i) (H j)) c.or_else-3.ensures (λ post. search rules),
+      either c.or_else.result (lower Exec k (C i) (C j)) c.or_else-2.ensures (λ post. search rules),
+      either c.unequal.result (unequal Deadline k (D i) (D j)) c.or_else.ensures (λ post. search rules),
+      c.unequal.ensures,
+    )

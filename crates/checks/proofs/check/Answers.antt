@@ -1,12 +1,12 @@
--- 5 to 11 in their order. Assumes nothing.
+-- The board, then the tasks. Assumes nothing.
 use Rattle.rules.specs.Refusals.{check_table}
-use Rattle.facts.proofs.Chain.{stops, goes_on}
+use Rattle.facts.proofs.Chain.{stops_at, goes_on_to}
 use Rattle.checks.proofs.check.Goals as goal
 
-pub returns-then-board-ne0 : goal.returns-then-board-ne0
+pub returns-in_err-check_board : goal.returns-in_err-check_board
 unfolding check_table
-returns-then-board-ne0 c = stops _ _ c.check_board-board.ensures c.if-board-ne0.true
+returns-in_err-check_board c = stops_at _ _ _ _ c.from_residual.ensures.1 c.in_err-check_board.ensures
 
 pub returns : goal.returns
 unfolding check_table
-returns c = goes_on _ _ c.check_board-board.ensures c.if-board-ne0.false c.check.ensures
+returns c = goes_on_to _ _ _ _ c.in_ok-check_board.ensures c.check.ensures

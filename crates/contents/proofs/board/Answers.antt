@@ -1,25 +1,27 @@
 -- 5 to 8 and 16 of a file, from its bytes. Assumes nothing.
 use mathlib.Core.Path.{◌∙◌}
 use native.Mathlib.Omega.{arith}
+use borrow.Author.Tests.{ltb-true, ltb-false}
 use Rattle.rules.specs.Refusals.{check_board}
 use Rattle.rules.specs.File.{decode}
+use Rattle.facts.proofs.Chain.{returned, was-faulty, was-faultless}
 use Rattle.fields.proofs.Steps.{header-there}
 use Rattle.contents.proofs.Steps.{counted-out}
 use Rattle.contents.proofs.board.Goals as goal
 
-pub returns : goal.returns
-unfolding check_board decode
-returns c =
-    c.board_refusal.ensures ∙ rw (c.row_in.ensures, c.sets_in-sets.ensures)
-
 pub bounds-file-0 : goal.bounds-file-0
 bounds-file-0 c = omega (arith, header-there c.args.file.now c.requires)
 
-pub returns-then-file-gt8 : goal.returns-then-file-gt8
-returns-then-file-gt8 c = c.refused.ensures ∙ counted-out _ (omega (arith, c.if-file-gt8.true))
+pub returns-in_err-refuse_if : goal.returns-in_err-refuse_if
+returns-in_err-refuse_if c =
+    let was = was-faulty 5 0 _ (tt {0}) (omega arith) c.in_err-refuse_if.ensures in
+    returned _ c.from_residual.ensures.1 ∙ rw was.1 (counted-out _ (ltb-true 8 _ was.0))
 
 pub sets_in-sets-requires : goal.sets_in-sets-requires
-sets_in-sets-requires c = record { file_bound = omega (arith, c.if-file-gt8.false); file_in_bounds = c.requires }
+sets_in-sets-requires c = record {
+  file_bound = ltb-false 8 _ (was-faultless 5 0 _ (tt {0}) (omega arith) c.in_ok-refuse_if.ensures);
+  file_in_bounds = c.requires;
+}
 
 pub bounds-file-0-2 : goal.bounds-file-0-2
 bounds-file-0-2 c = omega (arith, header-there c.args.file.now c.requires)
@@ -35,3 +37,7 @@ bounds-file-3 c = omega (arith, header-there c.args.file.now c.requires)
 
 pub row_in-requires : goal.row_in-requires
 row_in-requires c = omega (arith, header-there c.args.file.now c.requires)
+
+pub returns : goal.returns
+unfolding check_board decode
+returns c = c.board_refusal.ensures ∙ rw (c.row_in.ensures, c.sets_in-sets.ensures)

@@ -12,18 +12,20 @@ use Rattle.contents.proofs.table.Goals as goal
 long : (s : List ℕ) (n : ℕ) → record_at (form_in s) (cores_in s) (n + 1) ≤ length s → 34 ≤ length s
 long s n reaches = header-there s (sets-there s n reaches)
 
-pub sets_in-sets-requires : goal.sets_in-sets-requires
-sets_in-sets-requires c = record { file_bound = c.requires.file_bound.0; file_in_bounds = sets-there c.args.file.now c.args.n c.requires.n_in_bounds }
-
-pub returns : goal.returns
-returns c =
-    rw (c.row_in-timing.ensures, c.sets_in-sets.ensures, c.tasks-task.ensures, c.size.ensures.value)
-
-pub row_in-timing-requires : goal.row_in-timing-requires
-row_in-timing-requires c = long c.args.file.now c.args.n c.requires.n_in_bounds
-
 pub bounds-file-0 : goal.bounds-file-0
 bounds-file-0 c = omega (arith, long c.args.file.now c.args.n c.requires.n_in_bounds)
 
 pub bounds-file-1 : goal.bounds-file-1
 bounds-file-1 c = omega (arith, long c.args.file.now c.args.n c.requires.n_in_bounds)
+
+pub row_in-requires : goal.row_in-requires
+row_in-requires c = long c.args.file.now c.args.n c.requires.n_in_bounds
+
+pub sets_in-requires : goal.sets_in-requires
+sets_in-requires c = record { file_bound = c.requires.file_bound.0; file_in_bounds = sets-there c.args.file.now c.args.n c.requires.n_in_bounds }
+
+pub tasks-requires : goal.tasks-requires
+tasks-requires c = record { n_bound = omega (arith, c.from.ensures, c.requires.file_bound.1); n_in_bounds = rw c.from.ensures c.requires.n_in_bounds }
+
+pub returns : goal.returns
+returns c = rw (c.row_in.ensures, c.sets_in.ensures, c.tasks.ensures, c.from.ensures)

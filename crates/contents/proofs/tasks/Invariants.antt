@@ -1,5 +1,4 @@
 -- The tasks of a file, place by place. Assumes nothing.
-use Prim.Native.Nat.{◌-◌, ◌≤◌}
 use mathlib.Core.Path.{◌≡◌}
 use Rattle.laws.specs.Idioms.{filled}
 use Rattle.rules.specs.Tasks.{no_task}
@@ -7,7 +6,4 @@ use Rattle.contents.specs.Tasks.{tasks_to}
 use Rattle.contents.proofs.tasks.Given as goal
 
 abbrev pub invariant-loop-i : goal.invariant-loop-i
-invariant-loop-i l = (l.i ≤ l.n) × (l.all ≡ filled 32 no_task (tasks_to l.file l.i))
-
-abbrev pub decreases-loop-i : goal.decreases-loop-i
-decreases-loop-i l = l.n - l.i
+invariant-loop-i l = l.all ≡ filled 32 no_task (tasks_to l.file l.i)

@@ -1,48 +1,27 @@
--- `all_costs` fills a place a core with its costs. Assumes nothing.
-use mathlib.Core.Path.{◌≡◌, refl, sym, ap, ◌∙◌}
-use mathlib.Core.Bool.{Bool, true}
-use mathlib.Core.List.{List}
-use Prim.Native.Nat.{ℕ, ◌+◌, ◌-◌, ◌<◌}
-use lib.ListN.{get_or}
-use borrow.Author.Rules.{rules}
-use native.Mathlib.Omega.{arith}
+-- The costs of each core are its prices. Assumes nothing.
+use Rattle.std.proofs.Common.{◌≡◌, ◌-◌, get_or, sym, ap, ◌∙◌, rules, true}
+use Rattle.laws.proofs.Places.{place_of}
 use Rattle.delays.specs.Figures.{figures_of}
 use Rattle.facts.specs.Prices.{dram_prices}
-use Rattle.prices.specs.Costs.{costs_at, no_costs}
-use Rattle.laws.specs.Idioms.{from}
-use Rattle.laws.proofs.Places.{place_next, place_of}
+use Rattle.prices.specs.Costs.{costs_at}
 use Rattle.sides.specs.Masks.{mask, on_side, side_masks}
+use Rattle.weights.specs.Shows.{Shows}
 use Rattle.dram.proofs.Bounds.{small}
 use Rattle.dram.proofs.all_costs.Goals as goal
 
-pub loop-p-init : goal.loop-p-init
-unfolding from
-loop-p-init c = (search rules, λ t e s f. rw c.no_costs-none.ensures)
-
--- the mask of one core
-side-at : (near : Bool) (cores : ℕ) (sets : List ℕ) (p : ℕ) → p < cores → get_or (side_masks near cores sets) p 0 ≡ mask (on_side near sets (p + 1)) cores
-unfolding side_masks
-side-at near cores sets p h =
-    let less : p + 1 - 1 ≡ p = omega arith in
-    rw less at (place_of 0 (λ p. mask (on_side near sets p) cores) 8 cores (p + 1) (omega arith) (omega arith))
-
-pub costs-requires : goal.costs-requires
-costs-requires c = record { le_p = search rules; figures_bounded = small c.requires.1 c.figures_of-figures.ensures }
+pub each_core-requires-clause-callable : goal.each_core-requires-clause-callable
+each_core-requires-clause-callable c = λ p w.
+    let bounded = small c.requires.1 c.figures_of-figures.ensures in
+    search rules
 
 pub returns : goal.returns
+unfolding side_masks
 returns c t e s row =
-    let all : c.loop-p.p ≡ t.cores = omega arith in
-    rw (c.loop-p.invariant.1 t e s (c.figures_of-figures.ensures ∙ ap figures_of (sym row)), all)
-
-pub all_sides-requires : goal.all_sides-requires
-all_sides-requires c = record { cores_bound = c.requires.0; near_value = (refl, refl) }
-
-pub loop-p-preserved : goal.loop-p-preserved
-loop-p-preserved c =
     let both = c.all_sides.ensures in
-    let a = c.args in (
-      search rules,
-      λ t e s f.
-          rw (c.loop-p.invariant.1 t e s f, c.costs.ensures t e (record { near_is = rw (e, s, both.near_after) (side-at true a.cores a.sets.now c.loop-p.p (omega arith)); far_are = rw (e, s) both.far_after; figures_are = f }))
-          (place_next no_costs (λ r. costs_at t.cores (dram_prices t r)) 8 c.loop-p.p (omega (arith, c.requires.0))),
-    )
+    let a = c.args in
+    rw (← e) at (c.each_core.ensures (λ p. costs_at t.cores (dram_prices t p)) (λ p r w post.
+    let near : get_or c.all_sides.new.near (p - 1) 0 ≡ mask (on_side true a.sets.now p) a.cores =
+    rw both.near_after (place_of 0 (λ q. mask (on_side true a.sets.now q) a.cores) 8 a.cores p w.low w.high) in
+    let shows : Shows p (get_or c.all_sides.new.near (p - 1) 0) c.all_sides.new.far c.figures_of-figures.result t =
+    record { near_is = rw (e, s) near; far_are = rw (e, s) both.far_after; figures_are = c.figures_of-figures.ensures ∙ ap figures_of (sym row) } in
+    search rules))

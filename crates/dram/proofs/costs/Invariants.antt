@@ -1,13 +1,9 @@
 -- `costs` weighs every core, and sums the weights. Assumes nothing.
-use mathlib.Core.Path.{◌≡◌}
-use Prim.Native.Nat.{◌-◌, ◌*◌, ◌^◌, ◌≤◌}
+use Rattle.std.proofs.Common.{◌≡◌, ◌*◌, ◌^◌, ◌≤◌}
 use Rattle.rules.specs.declared.Table.{Table}
 use Rattle.weights.specs.Shows.{Shows}
 use Rattle.dram.proofs.Gathered.{SoFar}
 use Rattle.dram.proofs.costs.Given as goal
 
 abbrev pub invariant-loop-q : goal.invariant-loop-q
-invariant-loop-q l = (l.q ≤ l.cores) × (l.sum ≤ l.q * (3 * 10 ^ 7)) × ((t : Table) → t.cores ≡ l.cores → Shows l.p l.near l.far l.f t → SoFar t l.p l.q l.sum l.weight)
-
-abbrev pub decreases-loop-q : goal.decreases-loop-q
-decreases-loop-q l = l.cores - l.q
+invariant-loop-q l = (l.sum ≤ l.q * (3 * 10 ^ 7)) × ((t : Table) → t.cores ≡ l.cores → Shows l.p l.near l.far l.f t → SoFar t l.p l.q l.sum l.weight)

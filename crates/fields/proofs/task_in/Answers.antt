@@ -8,4 +8,4 @@ pub returns : goal.returns
 unfolding record_task
 returns c =
     let s = c.args.part.now in
-    rw (c.le64-exec.ensures, c.le64-period.ensures, c.le64-deadline.ensures, c.le32.ensures, ← number-one s 0 (omega arith))
+    rw (c.le64.ensures, c.le64-2.ensures, c.le64-3.ensures, c.le32.ensures, ← number-one s 0 (omega arith))

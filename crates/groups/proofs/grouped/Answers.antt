@@ -1,22 +1,18 @@
 -- The places of every core's tasks. Assumes nothing.
-use borrow.Author.Rules.{rules}
-use mathlib.Core.Path.{◌≡◌}
-use native.Mathlib.Omega.{arith}
+use Rattle.std.proofs.Common.{◌≡◌, rules, arith}
 use Rattle.groups.proofs.InTurn.{turn_none, turn_room, turn_next, turn_done}
 use Rattle.groups.proofs.grouped.Goals as goal
 
-pub group-m-requires : goal.group-m-requires
-group-m-requires c = let so = c.loop-q.invariant.1 in
-    record { n_bound = (c.requires.n_bound.0, omega (arith, c.requires.n_bound.0, turn_room c.args.core.now c.args.n so)); places_below = so.low }
+pub loop-q-init : goal.loop-q-init
+loop-q-init c = turn_none _ _ (search rules)
+
+pub group-m-requires-clause-n_bound : goal.group-m-requires-clause-n_bound
+group-m-requires-clause-n_bound c = (search rules, omega (arith, turn_room c.args.core.now c.args.n c.loop-q.invariant))
 
 pub loop-q-preserved : goal.loop-q-preserved
-loop-q-preserved c =
-    (search rules, turn_next c.args.core.now c.args.n (omega (arith, c.requires.n_bound.1)) c.loop-q.invariant.1 c.group-m.ensures)
+loop-q-preserved c = turn_next c.args.core.now c.args.n (search rules) c.loop-q.invariant c.group-m.ensures
 
 pub returns : goal.returns
 returns c =
     let e : c.loop-q.q ≡ c.args.cores = omega arith in
-    turn_done c.args.core.now c.args.n (rw e at c.loop-q.invariant.1)
-
-pub loop-q-init : goal.loop-q-init
-loop-q-init c = (search rules, turn_none _ _ (search rules))
+    turn_done c.args.core.now c.args.n (rw e at c.loop-q.invariant)

@@ -1,43 +1,31 @@
 -- A count is outside its limits, or the fourth byte has a bit that no table has. Assumes nothing.
-use mathlib.Core.Path.{◌≡◌, sym, ◌∙◌}
-use mathlib.Core.Bool.{true}
-use native.Mathlib.Omega.{arith}
-use borrow.Author.Tests.{le-ltb, lt-ltb, not-true, not-false}
+use mathlib.Core.Path.{◌≡◌, ◌∙◌}
+use mathlib.Core.Bool.{not, ◌&&◌}
 use Rattle.laws.specs.Idioms.{within}
 use Rattle.rules.specs.Kinds.{fourth_allowed}
 use Rattle.rules.specs.Refusals.{counts_fault}
-use Rattle.limits.proofs.counts_fault.Goals.{Else-outside, Else-outside-2, Else-outside-3}
+use Rattle.chain.proofs.Faults.{one-fault, other_fault, not_less}
+use Rattle.limits.proofs.counts_fault.Goals.{Joined-outside, Joined-outside-2, then-outside, else-outside, then-outside-2, else-outside-2}
 use Rattle.limits.proofs.counts_fault.Goals as goal
 
--- what each test that passed says
-cores-in : (c : Else-outside) → within 1 8 c.args.cores ≡ true
-cores-in c = not-false _ (sym c.outside.ensures ∙ c.if-outside.false)
+two : (c : Joined-outside) → c.if-outside.value ≡ not (within 1 8 c.args.cores && within 1 16 c.args.partitions)
+two c =
+    elim c.if-outside.branch [
+      | then-outside w ↦ w.value-is ∙ one-fault _ _ c.outside.ensures w.if-outside.true
+      | else-outside w ↦ w.value-is ∙ other_fault _ _ c.outside.ensures w.if-outside.false w.outside-else-outside.ensures
+    ]
 
-partitions-in : (c : Else-outside-2) → within 1 16 c.args.partitions ≡ true
-partitions-in c = not-false _ (sym c.outside-2.ensures ∙ c.if-outside-2.false)
-
-tasks-in : (c : Else-outside-3) → within 1 32 c.args.tasks ≡ true
-tasks-in c = not-false _ (sym c.outside-3.ensures ∙ c.if-outside-3.false)
-
-pub returns-then-outside : goal.returns-then-outside
-unfolding counts_fault
-returns-then-outside c = simp (not-true (within 1 8 c.args.cores) (sym c.outside.ensures ∙ c.if-outside.true))
-
-pub returns-then-outside-2 : goal.returns-then-outside-2
-unfolding counts_fault
-returns-then-outside-2 c =
-    simp (cores-in c.before.before, not-true (within 1 16 c.args.partitions) (sym c.outside-2.ensures ∙ c.if-outside-2.true))
+three : (c : Joined-outside-2) → c.if-outside-2.value ≡ not (within 1 8 c.args.cores && within 1 16 c.args.partitions && within 1 32 c.args.tasks)
+three c =
+    elim c.if-outside-2.branch [
+      | then-outside-2 w ↦ w.value-is ∙ one-fault _ _ (two c.before) w.if-outside-2.true
+      | else-outside-2 w ↦ w.value-is ∙ other_fault _ _ (two c.before) w.if-outside-2.false w.outside-else-outside-2.ensures
+    ]
 
 pub returns-then-outside-3 : goal.returns-then-outside-3
 unfolding counts_fault
-returns-then-outside-3 c =
-    simp (cores-in c.before.before.before.before, partitions-in c.before.before, not-true (within 1 32 c.args.tasks) (sym c.outside-3.ensures ∙ c.if-outside-3.true))
+returns-then-outside-3 c = one-fault _ _ (three c.before) c.if-outside-3.true
 
-pub returns-then-fourth-gt3 : goal.returns-then-fourth-gt3
+pub returns-else-outside-3 : goal.returns-else-outside-3
 unfolding counts_fault fourth_allowed
-returns-then-fourth-gt3 c = simp (cores-in c.before.before.before.before.before, partitions-in c.before.before.before, tasks-in c.before, le-ltb _ 4 c.if-fourth-gt3.true)
-
-pub returns : goal.returns
-unfolding counts_fault fourth_allowed
-returns c =
-    simp (cores-in c.before.before.before.before.before, partitions-in c.before.before.before, tasks-in c.before, lt-ltb c.args.fourth 4 (omega (arith, c.if-fourth-gt3.false)))
+returns-else-outside-3 c = other_fault _ _ (three c.before) c.if-outside-3.false (not_less 4 c.args.fourth)

@@ -4,8 +4,9 @@ use mathlib.Core.Path.{◌≡◌}
 use native.Mathlib.Nat.{one-mul, mod-eq_of_lt, lt_of_le_of_lt}
 use lib.Pow.{pow_mono}
 use lib.Dec.{lit<}
-use borrow.Author.Tests.{eq-eqb, ne_eqb, lt-ltb, le-ltb}
+use borrow.Author.Tests.{eq-eqb, ne_eqb}
 use Rattle.rules.specs.Refusals.{set_fault}
+use Rattle.chain.proofs.Faults.{not_less}
 use Rattle.limits.proofs.set_fault.Goals as goal
 
 -- what the shift gives
@@ -18,12 +19,6 @@ pub returns-then-set-eq0 : goal.returns-then-set-eq0
 unfolding set_fault
 returns-then-set-eq0 c = simp (eq-eqb _ _ c.if-set-eq0.true)
 
-pub returns-then-partitions-set : goal.returns-then-partitions-set
+pub returns-else-set-eq0 : goal.returns-else-set-eq0
 unfolding set_fault
-returns-then-partitions-set c =
-    simp (ne_eqb _ _ c.if-set-eq0.false, le-ltb _ _ (simp (shifted c.args.partitions c.requires) at c.if-partitions-set.true))
-
-pub returns : goal.returns
-unfolding set_fault
-returns c =
-    simp (ne_eqb _ _ c.if-set-eq0.false, lt-ltb _ _ (simp (shifted c.args.partitions c.requires) at c.if-partitions-set.false))
+returns-else-set-eq0 c = rw (shifted c.args.partitions c.requires, ne_eqb _ _ c.if-set-eq0.false) (not_less _ _)

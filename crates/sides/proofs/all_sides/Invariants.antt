@@ -1,17 +1,10 @@
 -- `all_sides` fills a place a core, in both arrays. Assumes nothing.
-use mathlib.Core.Path.{◌≡◌}
-use mathlib.Core.Bool.{true, false}
-use mathlib.Core.List.{map}
-use Prim.Native.Nat.{◌-◌, ◌≤◌}
+use Rattle.std.proofs.Common.{◌≡◌, true, false, map}
 use Rattle.sides.specs.Masks.{mask, on_side}
 use Rattle.laws.specs.Idioms.{up_to, filled}
 use Rattle.sides.proofs.all_sides.Given as goal
 
 abbrev pub invariant-loop-p : goal.invariant-loop-p
 invariant-loop-p l =
-    (l.p ≤ l.cores)
-    × (l.near ≡ filled 8 0 (map (λ q. mask (on_side true l.sets q) l.cores) (up_to l.p)))
+    (l.near ≡ filled 8 0 (map (λ q. mask (on_side true l.sets q) l.cores) (up_to l.p)))
     × (l.far ≡ filled 8 0 (map (λ q. mask (on_side false l.sets q) l.cores) (up_to l.p)))
-
-abbrev pub decreases-loop-p : goal.decreases-loop-p
-decreases-loop-p l = l.cores - l.p

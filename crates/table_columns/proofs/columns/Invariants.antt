@@ -1,12 +1,8 @@
 -- T, C and H of the tasks, in an order of their places. Assumes nothing.
 use mathlib.Core.Path.{◌≡◌}
-use Prim.Native.Nat.{◌≤◌, ◌-◌}
-use lib.ListN.{length}
 use Rattle.groups.specs.Columns.{Columns}
 use Rattle.table_columns.proofs.columns.Given as goal
 
 abbrev pub invariant-loop-k : goal.invariant-loop-k
-invariant-loop-k l = ((l.k ≤ l.n) × (length l.spans ≡ 33) × (length l.costs ≡ 33) × (length l.asks ≡ 33)) × Columns l.table.task l.k l.order l.spans l.costs l.asks
-
-abbrev pub decreases-loop-k : goal.decreases-loop-k
-decreases-loop-k l = l.n - l.k
+invariant-loop-k g l =
+    Columns (g.S.Source.table l.source).task l.k l.order l.tasks.periods l.tasks.execs l.tasks.requests × (l.tasks.begins ≡ l.initial.tasks.begins)

@@ -1,12 +1,6 @@
 -- Of each task its core and its latest allowed response. Assumes nothing.
-use mathlib.Core.Path.{◌≡◌}
-use Prim.Native.Nat.{◌≤◌, ◌-◌}
-use lib.ListN.{length}
 use Rattle.groups.specs.Columns.{PerTask}
 use Rattle.table_columns.proofs.per_task.Given as goal
 
 abbrev pub invariant-loop-i : goal.invariant-loop-i
-invariant-loop-i l = (l.i ≤ l.n) × (length l.core ≡ 32) × (length l.latest ≡ 32) × PerTask l.table.task l.i l.core l.latest
-
-abbrev pub decreases-loop-i : goal.decreases-loop-i
-decreases-loop-i l = l.n - l.i
+invariant-loop-i g l = PerTask (g.S.Source.table l.source).task l.i l.core l.latest

@@ -6,4 +6,4 @@ use Rattle.tasks.proofs.noted.Goals as goal
 pub returns : goal.returns
 unfolding with_task core_fault request_fault
 returns c =
-    rw (c.earlier-3.ensures, c.earlier-2.ensures, c.time_fault.ensures, c.earlier.ensures, c.outside.ensures)
+    rw (c.earliest-3.ensures, c.earliest-2.ensures, c.time_fault.ensures, c.earliest.ensures, c.outside.ensures)

@@ -1,32 +1,24 @@
 -- T, D or C is outside its limits. Assumes nothing.
-use mathlib.Core.Path.{sym, ◌∙◌}
-use borrow.Author.Tests.{not-true, not-false}
+use mathlib.Core.Path.{◌≡◌, ◌∙◌}
+use mathlib.Core.Bool.{not, ◌&&◌}
 use Rattle.laws.specs.Idioms.{within}
 use Rattle.rules.specs.Tasks.{T, D}
 use Rattle.rules.specs.Refusals.{time_fault}
+use Rattle.chain.proofs.Faults.{one-fault, other_fault}
+use Rattle.tasks.proofs.time_fault.Goals.{Joined-outside, then-outside, else-outside}
 use Rattle.tasks.proofs.time_fault.Goals as goal
 
-pub returns-then-outside : goal.returns-then-outside
-unfolding time_fault
-returns-then-outside c =
-    let x = c.args.x in
-    simp (not-true (within 100000000 1000000000000 (T x)) (sym c.outside.ensures ∙ c.if-outside.true))
+two : (c : Joined-outside) → c.if-outside.value ≡ not (within 100000000 1000000000000 (T c.args.x) && within 1 (T c.args.x) (D c.args.x))
+two c =
+    elim c.if-outside.branch [
+      | then-outside w ↦ w.value-is ∙ one-fault _ _ c.outside.ensures w.if-outside.true
+      | else-outside w ↦ w.value-is ∙ other_fault _ _ c.outside.ensures w.if-outside.false w.outside-else-outside.ensures
+    ]
 
 pub returns-then-outside-2 : goal.returns-then-outside-2
 unfolding time_fault
-returns-then-outside-2 c =
-    let x = c.args.x in
-    simp (
-      not-false (within 100000000 1000000000000 (T x)) (sym c.outside.ensures ∙ c.if-outside.false),
-      not-true (within 1 (T x) (D x)) (sym c.outside-2.ensures ∙ c.if-outside-2.true),
-    )
+returns-then-outside-2 c = one-fault _ _ (two c.before) c.if-outside-2.true
 
-pub returns : goal.returns
+pub returns-else-outside-2 : goal.returns-else-outside-2
 unfolding time_fault
-returns c =
-    let x = c.args.x in
-    simp (
-      not-false (within 100000000 1000000000000 (T x)) (sym c.outside.ensures ∙ c.if-outside.false),
-      not-false (within 1 (T x) (D x)) (sym c.outside-2.ensures ∙ c.if-outside-2.false),
-      c.outside-3.ensures,
-    )
+returns-else-outside-2 c = other_fault _ _ (two c.before.before) c.if-outside-2.false c.outside-else-outside-2.ensures

@@ -1,23 +1,19 @@
 -- 9, then 10, then 11. Assumes nothing.
-use mathlib.Core.Path.{◌∙◌}
-use borrow.Author.Tests.{eq-eqb, ne_eqb}
+use Rattle.chain.proofs.Walk.{stays}
+use Rattle.facts.proofs.Chain.{stops_at, goes_on_to}
 use Rattle.tasks.specs.Faults.{told_by}
 use Rattle.tasks.proofs.told.Goals as goal
 
-pub returns-then-seen-ne0 : goal.returns-then-seen-ne0
+pub returns-in_err-refuse_seen : goal.returns-in_err-refuse_seen
 unfolding told_by
-returns-then-seen-ne0 c = c.refused.ensures ∙ simp (ne_eqb _ _ c.if-seen-ne0.true)
+returns-in_err-refuse_seen c = stops_at _ _ _ _ c.from_residual.ensures.1 (stays _ _ _ c.in_err-refuse_seen.ensures)
 
-pub returns-then-seen-ne0-2 : goal.returns-then-seen-ne0-2
+pub returns-in_err-refuse_seen-2 : goal.returns-in_err-refuse_seen-2
 unfolding told_by
-returns-then-seen-ne0-2 c = c.refused-then-seen-ne0-2.ensures ∙ simp (eq-eqb _ _ c.if-seen-ne0.false, ne_eqb _ _ c.if-seen-ne0-2.true)
-
-pub returns-then-seen-ne0-3 : goal.returns-then-seen-ne0-3
-unfolding told_by
-returns-then-seen-ne0-3 c =
-    c.refused-then-seen-ne0-3.ensures ∙ simp (eq-eqb _ _ c.if-seen-ne0.false, eq-eqb _ _ c.if-seen-ne0-2.false, ne_eqb _ _ c.if-seen-ne0-3.true)
+returns-in_err-refuse_seen-2 c =
+    stops_at _ _ _ _ c.from_residual-in_err-refuse_seen-2.ensures.1 (goes_on_to _ _ _ _ c.in_ok-refuse_seen.ensures c.in_err-refuse_seen-2.ensures)
 
 pub returns : goal.returns
 unfolding told_by
 returns c =
-    c.refused-2.ensures ∙ simp (eq-eqb _ _ c.if-seen-ne0.false, eq-eqb _ _ c.if-seen-ne0-2.false, eq-eqb _ _ c.if-seen-ne0-3.false)
+    goes_on_to _ _ _ _ (goes_on_to _ _ _ _ c.in_ok-refuse_seen.ensures c.in_ok-refuse_seen-2.ensures) c.refuse_seen-3.ensures

@@ -1,32 +1,19 @@
 -- F by its parts. Assumes nothing.
-use borrow.Author.Rules.{rules}
-use native.Mathlib.Omega.{arith}
+use Rattle.std.proofs.Common.{rules, arith}
 use Rattle.terms.specs.Terms.{job_of}
 use Rattle.terms.proofs.Cut.{by_request, by_job}
 use Rattle.terms.proofs.apply.Goals as goal
-
-pub overflow_add-exec : goal.overflow_add-exec
-overflow_add-exec c = omega arith
-
-pub overflow_add-requests : goal.overflow_add-requests
-overflow_add-requests c = omega arith
-
-pub overflow_add-result : goal.overflow_add-result
-overflow_add-result c = omega arith
-
-pub overflow_add-result-else-request-job : goal.overflow_add-result-else-request-job
-overflow_add-result-else-request-job c = omega arith
 
 pub returns-then-request-job : goal.returns-then-request-job
 unfolding job_of
 returns-then-request-job c =
     let higher = c.asked_higher-higher.ensures in
     let job = c.reached-job.ensures in
-    by_request _ _ higher.summed.is higher.summed_2.is c.capped-request.ensures job (omega (arith, job.high)) (search rules)
+    by_request _ _ {top = 18446744073709551615} higher.summed.is higher.summed_2.is (search rules) job (omega (arith, job.high)) (search rules)
 
 pub returns-else-request-job : goal.returns-else-request-job
 unfolding job_of
 returns-else-request-job c =
     let higher = c.asked_higher-higher.ensures in
     let job = c.reached-job.ensures in
-    by_job _ _ higher.summed.is higher.summed_2.is c.capped-request.ensures job (omega (arith, job.high)) (search rules)
+    by_job _ _ {top = 18446744073709551615} higher.summed.is higher.summed_2.is (search rules) job (omega (arith, job.high)) (search rules)

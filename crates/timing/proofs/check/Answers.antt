@@ -1,12 +1,12 @@
--- 6 and 7 in their order. Assumes nothing.
+-- 6, then 7. Assumes nothing.
 use Rattle.rules.specs.Refusals.{check_timing}
-use Rattle.facts.proofs.Chain.{stops, goes_on}
+use Rattle.facts.proofs.Chain.{stops_at, goes_on_to}
 use Rattle.timing.proofs.check.Goals as goal
 
-pub returns-then-ranges-ne0 : goal.returns-then-ranges-ne0
+pub returns-in_err-check_ranges : goal.returns-in_err-check_ranges
 unfolding check_timing
-returns-then-ranges-ne0 c = stops _ _ c.check_ranges-ranges.ensures c.if-ranges-ne0.true
+returns-in_err-check_ranges c = stops_at _ _ _ _ c.from_residual.ensures.1 c.in_err-check_ranges.ensures
 
 pub returns : goal.returns
 unfolding check_timing
-returns c = goes_on _ _ c.check_ranges-ranges.ensures c.if-ranges-ne0.false c.check_relations.ensures
+returns c = goes_on_to _ _ _ _ c.in_ok-check_ranges.ensures c.check_relations.ensures

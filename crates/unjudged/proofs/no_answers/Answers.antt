@@ -2,4 +2,4 @@
 use Rattle.unjudged.proofs.no_answers.Goals as goal
 
 pub returns : goal.returns
-returns c = simp c.missed-miss.ensures
+returns c = simp c.missed.ensures
