@@ -1,7 +1,7 @@
-// Small steps that many crates take: a refusal made, the kind of a table asked for and its mark, a task's latest response, a number held to its limits, the larger of two numbers.
+// Small steps that many crates take: a refusal made, the kind of a table asked for and its mark, a task's latest response, a number held to its limits.
 #![tactic(auto)]
 
-ghost use Rattle.std.specs.Prelude.{◌≡◌, not, max, ◌<◌};
+ghost use Rattle.std.specs.Prelude.{◌≡◌, not, ◌<◌};
 ghost use Rattle.laws.specs.Idioms.{within};
 ghost use Rattle.rules.specs.Chain.{refused};
 ghost use Rattle.rules.specs.Kinds.{says_bus, says_salvaged, marked};
@@ -50,10 +50,4 @@ pub fn outside(lowest: u64, highest: u64, x: u64) -> bool
     ensures { result ≡ not (within lowest highest x) }
 {
     !(lowest..=highest).contains(&x)
-}
-
-pub fn most(a: u64, b: u64) -> u64
-    ensures { result ≡ max a b }
-{
-    a.max(b)
 }

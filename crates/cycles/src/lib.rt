@@ -1,50 +1,39 @@
 // A row's figures, and what holds a command off (RULES 3.1 to 3.3), in cycles.
 #![tactic(auto)]
 
-ghost use Rattle.std.specs.Prelude.{◌≡◌, ◌+◌, ◌-◌, ◌/◌, ◌<◌, ◌≤◌, get_or};
+ghost use Rattle.std.specs.Prelude.{◌≡◌, ◌+◌, ◌/◌, ◌≤◌};
 ghost use Rattle.laws.specs.Idioms.{◌⊖◌, larger};
-ghost use Rattle.rules.specs.Timing as Timing;
+ghost use Rattle.rules.specs.Timing.{WL, BL, tWTR};
+ghost use Rattle.cycles.specs.Named.{named};
 ghost use Rattle.rules.specs.Delays.{pre, act, readwrite};
 
 use rules::Cycles;
 
-// The places of the figures in a row.
-pub const TCK: usize = 0;
-
-pub const TRP: usize = 1;
-
-pub const TRCD: usize = 2;
-
-pub const CL: usize = 3;
-
-pub const WL: usize = 4;
-
-pub const BL: usize = 5;
-
-pub const TWTR: usize = 6;
-
-pub const TWR: usize = 7;
-
-pub const TRRD: usize = 8;
-
-pub const TFAW: usize = 9;
-
-pub const TRAS: usize = 10;
-
-pub const TRTP: usize = 11;
-
-pub const TRTRS: usize = 12;
-
-pub const NCOLS: usize = 13;
-
-pub const NCAP: usize = 14;
+// The figures of a row, in the order of their places.
+#[derive(Clone, Copy)]
+pub enum Timing {
+    Tck,
+    Trp,
+    Trcd,
+    Cl,
+    Wl,
+    Bl,
+    Twtr,
+    Twr,
+    Trrd,
+    Tfaw,
+    Tras,
+    Trtp,
+    Trtrs,
+    Ncols,
+    Ncap,
+}
 
 // A figure of a row, wide enough that no sum of figures wraps.
-pub fn figure(row: [u16; 15], k: usize) -> u64
-    requires { k < 15 }
-    ensures { (result ≡ get_or row k 0) × (result ≤ 65535) }
+pub fn figure(row: [u16; 15], which: Timing) -> u64
+    ensures { (result ≡ named which row) × (result ≤ 65535) }
 {
-    row[k] as u64
+    u64::from(row[which as usize])
 }
 
 // The larger of a and the difference of x and y: one that falls below zero is never the larger, so it is cut off at zero and does not wrap.
@@ -56,9 +45,9 @@ fn larger(a: u64, x: u64, y: u64) -> u64
 
 // WL + BL/2 + tWTR: from a write to a read.
 pub fn turn(row: [u16; 15]) -> u64
-    ensures { (result ≡ Timing.WL row + Timing.BL row / 2 + Timing.tWTR row) × (result ≤ 163837) }
+    ensures { (result ≡ WL row + BL row / 2 + tWTR row) × (result ≤ 163837) }
 {
-    figure(row, WL) + figure(row, BL) / 2 + figure(row, TWTR)
+    figure(row, Timing::Wl) + figure(row, Timing::Bl) / 2 + figure(row, Timing::Twtr)
 }
 
 // RULES 3.1.
@@ -72,8 +61,8 @@ pub fn pre() -> Cycles
 pub fn act(row: [u16; 15]) -> Cycles
     ensures { result ≡ act row }
 {
-    let rrd = figure(row, TRRD);
-    let faw = figure(row, TFAW);
+    let rrd = figure(row, Timing::Trrd);
+    let faw = figure(row, Timing::Tfaw);
     Cycles(larger(rrd, faw, 3 * rrd))
 }
 
@@ -81,10 +70,10 @@ pub fn act(row: [u16; 15]) -> Cycles
 pub fn readwrite(row: [u16; 15]) -> Cycles
     ensures { result ≡ readwrite row }
 {
-    let cl = figure(row, CL);
-    let wl = figure(row, WL);
-    let half = figure(row, BL) / 2;
-    let rtrs = figure(row, TRTRS);
+    let cl = figure(row, Timing::Cl);
+    let wl = figure(row, Timing::Wl);
+    let half = figure(row, Timing::Bl) / 2;
+    let rtrs = figure(row, Timing::Trtrs);
     let longest = turn(row);
     let longest = larger(longest, cl + half + 2, wl);
     let longest = larger(longest, wl + half + rtrs, cl);

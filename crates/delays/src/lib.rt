@@ -8,7 +8,7 @@ ghost use Rattle.rules.specs.Delays.{pre, act, readwrite};
 ghost use Rattle.facts.specs.Sound.{SoundRow};
 ghost use Rattle.delays.specs.Figures.{figures_of};
 
-use cycles::{act, figure, pre, readwrite};
+use cycles::{Timing, act, figure, pre, readwrite};
 use hits::{conf, reopen, window};
 use rules::{Cycles, Picos};
 use runs::run;
@@ -36,7 +36,7 @@ pub fn in_time(row: [u16; 15], c: Cycles) -> Picos
     requires { c.0 * tCK row < 2 ^ 64 }
     ensures { result ≡ in_time row c }
 {
-    Picos(c.0 * figure(row, cycles::TCK))
+    Picos(c.0 * figure(row, Timing::Tck))
 }
 
 // pre + act + rw: what one request of a far core costs, in cycles

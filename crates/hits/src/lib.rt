@@ -4,7 +4,7 @@
 ghost use Rattle.std.specs.Prelude.{◌≡◌, ◌/◌, ◌≤◌};
 ghost use Rattle.rules.specs.Delays.{hit, reopen, conf, window};
 
-use cycles::{BL, CL, NCAP, NCOLS, TRCD, TRP, TWR, TWTR, WL, figure};
+use cycles::{Timing, figure};
 use rules::Cycles;
 
 // The rules' quotient, which is 0 where the divisor is.
@@ -18,9 +18,11 @@ fn quotient(a: u64, b: u64) -> u64
 pub fn hit(row: [u16; 15]) -> Cycles
     ensures { (result ≡ hit row) × (result.0 ≤ 163837) }
 {
-    let half = figure(row, BL) / 2;
-    let read = figure(row, CL) + half + 2;
-    let write = figure(row, WL) + half + figure(row, TWTR).max(figure(row, TWR));
+    let half = figure(row, Timing::Bl) / 2;
+    let read = figure(row, Timing::Cl) + half + 2;
+    let write = figure(row, Timing::Wl)
+        + half
+        + figure(row, Timing::Twtr).max(figure(row, Timing::Twr));
     Cycles(read.max(write))
 }
 
@@ -28,22 +30,22 @@ pub fn hit(row: [u16; 15]) -> Cycles
 pub fn reopen(row: [u16; 15]) -> Cycles
     ensures { result ≡ reopen row }
 {
-    Cycles(figure(row, TRP) + figure(row, TRCD))
+    Cycles(figure(row, Timing::Trp) + figure(row, Timing::Trcd))
 }
 
 // RULES 3.4.
 pub fn conf(row: [u16; 15]) -> Cycles
     ensures { result ≡ conf row }
 {
-    Cycles(figure(row, TRP) + figure(row, TRCD) + hit(row).0)
+    Cycles(figure(row, Timing::Trp) + figure(row, Timing::Trcd) + hit(row).0)
 }
 
 // RULES 3.6: an Ncap of 65535 is unknown (RULES 2.4).
 pub fn window(row: [u16; 15]) -> u64
     ensures { result ≡ window row }
 {
-    let bursts = quotient(figure(row, NCOLS), figure(row, BL));
-    let cap = figure(row, NCAP);
+    let bursts = quotient(figure(row, Timing::Ncols), figure(row, Timing::Bl));
+    let cap = figure(row, Timing::Ncap);
     if cap == 65535 {
         bursts
     } else {

@@ -47,7 +47,7 @@ fn weighed(w: u64) -> u64
     b + 2 * c + 3 * d
 }
 
-// The two sums, taken out of the lanes.
+// The two sums, taken out of the lanes. Four numbers and no struct of them: they meet here and in word_sums alone, and a struct's method would have to ask for their room.
 fn out_of_lanes(e: u64, o: u64, re: u64, ro: u64) -> Totals
     requires { early e o ≤ 8 * (added_of re + added_of ro) }
     ensures { result ≡ sums_in e o re ro }

@@ -20,6 +20,7 @@ pub fn reason(number: u8, out: &mut [u8]) -> usize
     if number == 255 {
         return give(b"an output is shorter than the tasks", out);
     }
+    // one text, in the order of the numbers: a match would have an arm for each of them, and each arm a proof
     let texts = b"nothing is refused|\
         the file has under 46 bytes|\
         the file's length is not what its counts say|\

@@ -4,7 +4,7 @@
 ghost use Rattle.std.specs.Prelude.{◌≡◌, ◌≤◌};
 ghost use Rattle.rules.specs.Delays.{run};
 
-use cycles::{CL, TWR, TWTR, figure, turn};
+use cycles::{Timing, figure, turn};
 use rules::Cycles;
 
 // RULES 3.5: the writes, then the reads, then the rest; nothing where there is no row hit.
@@ -16,6 +16,6 @@ pub fn run(row: [u16; 15], m: u64) -> Cycles
         return Cycles(0);
     }
     let writes = (m + 1) / 2 * turn(row);
-    let reads = m / 2 * figure(row, CL);
-    Cycles(writes + reads + figure(row, TWR).saturating_sub(figure(row, TWTR)))
+    let reads = m / 2 * figure(row, Timing::Cl);
+    Cycles(writes + reads + figure(row, Timing::Twr).saturating_sub(figure(row, Timing::Twtr)))
 }

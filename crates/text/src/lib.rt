@@ -50,7 +50,7 @@ pub fn put_phrase(buf: &mut [u8], at: usize, word: &[u8], n: u64, after: u8) -> 
 
 // ---- whole or not at all: this asks for no room
 
-// A text at the start of a lent buffer, and its length; where it does not fit, nothing, and 0.
+// A text at the start of a lent buffer, and its length; where it does not fit, nothing, and 0, which is ryb_list's and ryb_reason's answer in C (`Given`).
 pub fn give(text: &[u8], out: &mut [u8]) -> usize
     ensures { Given text.now out.old result out.new }
 {

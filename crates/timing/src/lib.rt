@@ -7,7 +7,7 @@ ghost use Rattle.rules.specs.Chain.{first, granted};
 ghost use Rattle.rules.specs.Refusals.{relation_fault, check_timing, bus_fault, check_bus};
 
 use chain::refuse_first;
-use cycles::figure;
+use cycles::{Timing, figure};
 use ranges::check_ranges;
 use rules::Refusal;
 
@@ -33,11 +33,11 @@ fn relation_fault(row: [u16; 15], k: u8) -> bool
     ensures { result ≡ relation_fault row k }
 {
     match k {
-        1 => figure(row, cycles::TWR) < figure(row, cycles::TWTR),
-        2 => cycles::turn(row) < figure(row, cycles::CL),
-        3 => figure(row, cycles::CL) + figure(row, cycles::BL) / 2 + 2 <= figure(row, cycles::TRTP),
-        4 => figure(row, cycles::TRCD) + hits::hit(row).0 <= figure(row, cycles::TRAS),
-        _ => remainder(figure(row, cycles::NCOLS), figure(row, cycles::BL)) != 0,
+        1 => figure(row, Timing::Twr) < figure(row, Timing::Twtr),
+        2 => cycles::turn(row) < figure(row, Timing::Cl),
+        3 => figure(row, Timing::Cl) + figure(row, Timing::Bl) / 2 + 2 <= figure(row, Timing::Trtp),
+        4 => figure(row, Timing::Trcd) + hits::hit(row).0 <= figure(row, Timing::Tras),
+        _ => remainder(figure(row, Timing::Ncols), figure(row, Timing::Bl)) != 0,
     }
 }
 
