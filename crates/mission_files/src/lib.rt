@@ -30,6 +30,7 @@ pub fn altered(file: &mut [u8], i: usize, b: u8) -> Result<(), Refusal>
 }
 
 // Point 1 of a file that came whole and is cut short, or has one byte altered: it did not come whole.
+// Kept beside the two above: over `impl Fn` the check's promise would stand in a clause longer than these bodies, and each contract is a sentence of its own.
 pub fn whole_cut_short(file: &[u8], n: usize) -> Result<(), Refusal>
     ensures value { result ≡ granted (check_whole (take n file.now)) tt }
     ensures result_value { is_accepted (check_whole file.now) ≡ true → n < length file.now → IsErr result }
