@@ -16,11 +16,10 @@ ghost use Rattle.columns.specs.Held.{Held};
 use own::Lent;
 use prices::Priced;
 use rules::{Answer, Refusal, Table};
-use table_columns::Source;
+use table_columns::{Checked, Source};
 
 // What an accepted table's cores cost each other.
 fn priced<S: Source>(source: &S) -> Priced
-    requires { Sound (S.table source.now) }
     ensures { result ≡ priced_of (S.table source.now) }
 {
     let cores = source.cores();
@@ -35,7 +34,6 @@ fn priced<S: Source>(source: &S) -> Priced
 
 // All that judging needs of an accepted table, wherever it stands, into lent columns.
 pub fn lay<S: Source>(source: &S, lent: &mut Lent)
-    requires { Sound (S.table source.now) }
     ensures { Held (S.table source.now) lent.new }
 {
     lent.board = priced(source);
@@ -52,7 +50,7 @@ pub fn judge_task(table: Table, k: u8, start: u64) -> Option<Answer>
     ensures { result ≡ climbed_for table k start }
 {
     let mut lent = Lent::empty();
-    lay(&table, &mut lent);
+    lay(&Checked { table: &table }, &mut lent);
     let i = (k as usize) - 1;
     let p = (lent.core[i] as usize) - 1;
     let place = standing::place(i, lent.tasks.begins[p], &lent.core);
@@ -66,6 +64,6 @@ pub fn judge_tasks(table: Table, starts: [u64; 32]) -> Result<[Answer; 32], Refu
     ensures { result ≡ granted (judge_all table starts).refusal (judge_all table starts).answers }
 {
     let mut lent = Lent::empty();
-    lay(&table, &mut lent);
+    lay(&Checked { table: &table }, &mut lent);
     rounds::judge_lent(&lent, &starts)
 }

@@ -32,13 +32,16 @@ module _ (s : List ℕ) where
   unfolding decode
   timing_is = refl
 
-  -- every byte of the header is there, and of the sets, which have room in a table; and every record
+  -- every byte of the header is there, and of the sets; its cores and tasks have room in a table; and every record is there
   module _ (e : is_accepted (check_file s) ≡ true) where
     pub header : 46 ≤ length s
     header = (file_sized s e).long
 
-    pub few : cores_in s ≤ 8
-    few = (file_counts s e).0
+    pub few-cores : cores_in s ≤ 8
+    few-cores = (file_counts s e).0
+
+    pub few-tasks : tasks_in s ≤ 32
+    few-tasks = (file_counts s e).1
 
     pub sets-there : records_at (form_in s) (cores_in s) ≤ length s
     sets-there = sets_end s (file_sized s e)
@@ -46,4 +49,4 @@ module _ (s : List ℕ) where
     pub sized : Sized s
     sized = file_sized s e
 
-pub ruleset known = (tasks_are, cores_are, fourth_is, sets_are, timing_is, header, few, sets-there, sized)
+pub ruleset known = (tasks_are, cores_are, fourth_is, sets_are, timing_is, header, few-cores, few-tasks, sets-there, sized)

@@ -17,7 +17,9 @@ pub struct Accepted<'a> {
 }
 
 impl<'a> Source for Accepted<'a> {
-    ghost table = { λ a. decode a.file.now };
+    ghost use Rattle.file.proofs.Reading.{file_sound};
+
+    ghost table = { λ s. decode s.file.now };
 
     fn tasks(&self) -> usize {
         places::size(self.file[2])
@@ -42,4 +44,6 @@ impl<'a> Source for Accepted<'a> {
     fn task(&self, i: usize) -> Task {
         fields::task_at(self.file, i)
     }
+
+    ghost sound = { λ s. file_sound s.file.now s.accepted };
 }

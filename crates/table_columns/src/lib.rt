@@ -1,7 +1,7 @@
 // The figures of an accepted table's tasks in lent columns, wherever the table stands.
 #![tactic(auto)]
 
-ghost use Rattle.std.specs.Prelude.{◌≡◌, ◌<◌, get_or};
+ghost use Rattle.std.specs.Prelude.{◌≡◌, ◌≤◌, ◌<◌, get_or};
 ghost use Rattle.rules.specs.declared.Table.{Table};
 ghost use Rattle.rules.specs.Tasks.{no_task};
 ghost use Rattle.facts.specs.Sound.{Sound};
@@ -11,15 +11,17 @@ ghost use Rattle.groups.specs.Columns.{PerTask, Columns};
 use counts::Grouped;
 use rules::{Table, Task};
 
-// Where the figures of a table stand: in a table itself, or in the bytes of a file.
+// Where the figures of an accepted table stand: in a table itself, or in the bytes of a file.
 pub trait Source {
     ghost table: { Self → Table };
 
     fn tasks(&self) -> usize
-        ensures { result ≡ (table self.now).tasks };
+        ensures value { result ≡ (table self.now).tasks }
+        ensures few { result ≤ 32 };
 
     fn cores(&self) -> usize
-        ensures { result ≡ (table self.now).cores };
+        ensures value { result ≡ (table self.now).cores }
+        ensures few { result ≤ 8 };
 
     fn fourth(&self) -> u8
         ensures { result ≡ (table self.now).fourth };
@@ -33,41 +35,51 @@ pub trait Source {
 
     // The task in place i.
     fn task(&self, i: usize) -> Task
-        requires { Sound (table self.now) × (i < (table self.now).tasks) }
+        requires { i < (table self.now).tasks }
         ensures { result ≡ get_or (table self.now).task i no_task };
+
+    ghost sound: { (s : Self) → Sound (table s) };
 }
 
-impl Source for Table {
-    ghost table = { λ t. t };
+// A table that is accepted.
+#[derive(Clone, Copy)]
+pub struct Checked<'a> {
+    pub table: &'a Table,
+    pub ghost sound: { Sound table.now },
+}
+
+impl<'a> Source for Checked<'a> {
+    ghost table = { λ s. s.table.now };
 
     fn tasks(&self) -> usize {
-        self.tasks as usize
+        self.table.tasks as usize
     }
 
     fn cores(&self) -> usize {
-        self.cores as usize
+        self.table.cores as usize
     }
 
     fn fourth(&self) -> u8 {
-        self.fourth
+        self.table.fourth
     }
 
     fn sets(&self) -> [u16; 8] {
-        self.sets
+        self.table.sets
     }
 
     fn timing(&self) -> [u16; 15] {
-        self.timing
+        self.table.timing
     }
 
     fn task(&self, i: usize) -> Task {
-        self.task[i]
+        self.table.task[i]
     }
+
+    ghost sound = { λ s. s.sound };
 }
 
 // Of each task its core and its latest allowed response.
 pub fn per_task<S: Source>(source: &S, core: &mut [u8; 32], latest: &mut [u64; 32])
-    requires { Sound (S.table source.now) }
     ensures { PerTask (S.table source.now).task (S.table source.now).tasks core.new latest.new }
 {
     for i in 0..source.tasks() {
@@ -79,8 +91,7 @@ pub fn per_task<S: Source>(source: &S, core: &mut [u8; 32], latest: &mut [u64; 3
 
 // T with its inverse, C and H of the tasks, in an order of their places.
 pub fn columns<S: Source>(source: &S, order: &[usize; 33], tasks: &mut Grouped)
-    requires sound { Sound (S.table source.now) }
-    requires order { PlacesBelow (S.table source.now).tasks order.now }
+    requires { PlacesBelow (S.table source.now).tasks order.now }
     ensures columns { Columns (S.table source.now).task (S.table source.now).tasks order.now tasks.new.periods tasks.new.execs tasks.new.requests }
     ensures begins { tasks.new.begins ≡ tasks.old.begins }
 {

@@ -4,8 +4,8 @@ use Rattle.columns.proofs.Holding.{of_judgeable}
 use Rattle.columns.proofs.AllJudged.{judged_is}
 use Rattle.columns.proofs.judge_tasks.Goals as goal
 
-pub lay-requires : goal.lay-requires
-lay-requires c = judged-sound _ c.requires
+pub invariant_of-lay : goal.invariant_of-lay
+invariant_of-lay c = record { sound = judged-sound _ c.requires }
 
 pub judge_lent-requires : goal.judge_lent-requires
 judge_lent-requires c = of_judgeable c.args.table (judged-sound _ c.requires) c.lay.ensures

@@ -9,9 +9,6 @@ use Rattle.verdicts.proofs.judge_accepted.Goals as goal
 pub invariant_of-lay : goal.invariant_of-lay
 invariant_of-lay c = record { accepted = judged_file _ c.requires }
 
-pub lay-requires : goal.lay-requires
-lay-requires c = file_sound _ (judged_file _ c.requires)
-
 pub judge_lent-requires : goal.judge_lent-requires
 judge_lent-requires c =
     of_judgeable (decode c.args.file.now) (file_sound _ (judged_file _ c.requires)) c.lay.ensures
