@@ -99,7 +99,10 @@ fn write(rt: HostRuntime, payload: &[u8]) -> io::Result<()> {
 // `salvaged LEN` or `refused N P`, and the three counts
 fn put_salvaged(rt: HostRuntime, salvaged: Result<Salvage, Refusal>) -> io::Result<()> {
     match salvaged {
-        Ok(new) => print!(rt; "salvaged {} {} {} {}", new.length, new.promised, new.kept, new.stopped),
+        Ok(new) => print!(rt;
+            "salvaged {} {} {} {}",
+            new.length, new.promised, new.kept, new.stopped
+        ),
         Err(refusal) => {
             refused(rt, refusal)?;
             word(rt, b" 0 0 0")
@@ -131,10 +134,17 @@ fn judge_one(rt: HostRuntime, payload: &[u8]) -> io::Result<()> {
 }
 
 // What stands in the place of answers where nothing is judged: misses in 0 rounds.
-const NONE: [Answer; 32] = [Answer { verdict: Verdict::Misses, rounds: 0 }; 32];
+const NONE: [Answer; 32] = [Answer {
+    verdict: Verdict::Misses,
+    rounds: 0,
+}; 32];
 
 // A word and the answers, or the refusal and none.
-fn put_answers(rt: HostRuntime, how: &[u8], judged: Result<[Answer; 32], Refusal>) -> io::Result<()> {
+fn put_answers(
+    rt: HostRuntime,
+    how: &[u8],
+    judged: Result<[Answer; 32], Refusal>,
+) -> io::Result<()> {
     match judged {
         Ok(answers) => {
             word(rt, how)?;
