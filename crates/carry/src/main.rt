@@ -11,14 +11,14 @@ use rules::{Answer, Picos, Refusal, Rejudgement, Table};
 
 // ---- what was spared, or what stood against it
 
-fn rounds(answers: &[Answer]) -> u64 {
+fn rounds(answers: [Answer; 32]) -> u64 {
     answers
         .iter()
         .fold(0, |sum: u64, answer| sum.saturating_add(answer.rounds))
 }
 
 fn fresh_rounds(t: Table) -> u64 {
-    judge::judge_all(t, [Picos(0); 32]).map_or(0, |answers| rounds(&answers))
+    judge::judge_all(t, [Picos(0); 32]).map_or(0, |answers| rounds(answers))
 }
 
 // `carry: 42 rounds from the older bounds, 114 fresh`
@@ -43,6 +43,7 @@ const OLDER: Source = Source::Named(1);
 const NEWER: Source = Source::Named(2);
 
 // The two tables, and the newer one's judgement.
+#[derive(Clone, Copy)]
 struct Carried {
     older: Table,
     newer: Table,
@@ -67,7 +68,7 @@ fn show(rt: HostRuntime, carried: &Carried) -> Result<(), Failed> {
     let n = listing::lines(carried.newer, answers, &mut out);
     console::say(rt, b"carry: ", front(&out, n))?;
     if carried.again.carried {
-        note_spared(rt, rounds(&answers), fresh_rounds(carried.newer));
+        note_spared(rt, rounds(answers), fresh_rounds(carried.newer));
     } else {
         note_difference(rt, carried.older, carried.newer);
     }
