@@ -1,20 +1,12 @@
-// Small steps that many crates take: a refusal made, the kind of a table asked for and its mark, a task's latest response, a number held to its limits.
+// Small steps that many crates take: the kind of a table asked for and its mark, a task's latest response, a number held to its limits.
 #![tactic(auto)]
 
 ghost use Rattle.std.specs.Prelude.{◌≡◌, not, ◌<◌};
 ghost use Rattle.laws.specs.Idioms.{within};
-ghost use Rattle.rules.specs.Chain.{refused};
 ghost use Rattle.rules.specs.Kinds.{says_bus, says_salvaged, marked};
 ghost use Rattle.rules.specs.Tasks as Tasks;
 
-use rules::{Refusal, Task};
-
-// RULES 9.1; 0, 0 where nothing is refused.
-pub fn refused(number: u8, place: u8) -> Refusal
-    ensures { result ≡ refused number place }
-{
-    Refusal { number, place }
-}
+use rules::Task;
 
 // RULES 2.1: a table with this fourth byte is a bus table.
 pub fn says_bus(fourth: u8) -> bool

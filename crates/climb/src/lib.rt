@@ -16,7 +16,7 @@ fn lowest(own: Own) -> u64
     own.exec
 }
 
-// The answer by the rounds from the larger of the lowest start and the given one; none where F lowers that.
+// The answer by the rounds from the larger of the lowest start and the given one; none where F lowers that. What F gives ends them, so no `for` counts them.
 pub fn settle(own: Own, tasks: &Grouped, given: u64) -> Option<Answer>
     requires { Ready (terms_in own tasks.now) given }
     ensures { result ≡ climbed (terms_in own tasks.now) given }

@@ -9,13 +9,6 @@ use Rattle.std.specs.Prelude.{Result, Ok, Err, IsErrAnd, is_ok, is_err, ◌≤�
 use Rattle.std.proofs.lemmas.Result.{err_from_is_err_and}
 use Rattle.rules.specs.Chain.{accepted, refused, is_accepted, ◌or_else◌, given, granted, refusal_of}
 
--- a refusal that a call gave: its number is 0, or is not
-pub passes : {r s : Refusal} → r ≡ s → r.number ≡ 0 → is_accepted s ≡ true
-passes {r} e h = rw e at (eq-eqb r.number 0 h)
-
-pub refuses : {r s : Refusal} → r ≡ s → (r.number ≡ 0 → ⊥) → is_accepted s ≡ false
-refuses {r} e h = rw e at (ne_eqb r.number 0 h)
-
 pub both-accepted : (a b : Refusal) → is_accepted (a or_else b) ≡ true → (is_accepted a ≡ true) × (is_accepted b ≡ true)
 both-accepted a b e = go (is_accepted a) refl e
   where
@@ -33,14 +26,6 @@ second_decides a b e = rw e
 pub no_fault : (n place : ℕ) (fault : Bool) → is_accepted (given (suc n) place fault) ≡ true → fault ≡ false
 no_fault n place true e = absurd (omega (arith, eqb-true (suc n) 0 e))
 no_fault n place false e = refl
-
--- as code walks it: a link that refuses is the answer, and after one that passes the rest is
-module _ (a b : Refusal) {x : Refusal} (is : x ≡ a) where
-  pub stops : (x.number ≡ 0 → ⊥) → x ≡ a or_else b
-  stops h = rw (← is) (sym (first-refuses x b (ne_eqb x.number 0 h)))
-
-  pub goes_on : x.number ≡ 0 → {y : Refusal} → y ≡ b → y ≡ a or_else b
-  goes_on h {y} e = rw (← is) (e ∙ sym (second_decides x b (eq-eqb x.number 0 h)))
 
 -- what code answers: by the refusal, and back
 pub allowed : {A : Type 0} (r : Refusal) (x : A) → is_accepted r ≡ true → granted r x ≡ Ok x

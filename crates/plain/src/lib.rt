@@ -9,7 +9,7 @@ ghost use Rattle.plain.specs.Codes.{code_of};
 
 use rules::{Refusal, Verdict};
 
-// Number and place in one; 0 where nothing is refused.
+// Number and place in one; 0 where nothing is refused, as a refusal of number 0 would say, which no operation gives.
 pub fn code(answered: Result<(), Refusal>) -> u16
     ensures { result ≡ code_of (refusal_of answered) }
 {
