@@ -13,7 +13,6 @@ ghost use Rattle.prices.specs.Costs.{priced_of};
 ghost use Rattle.columns.specs.Numbered.{climbed_for};
 ghost use Rattle.columns.specs.Held.{Held};
 
-use counts::Grouped;
 use own::Lent;
 use prices::Priced;
 use rules::{Answer, Refusal, Table};
@@ -34,22 +33,16 @@ fn priced<S: Source>(source: &S) -> Priced
     }
 }
 
-// All that judging needs of an accepted table, wherever it stands. Its parts are filled in their places, so that they are not copied.
-pub fn laid<S: Source>(source: &S) -> Lent
+// All that judging needs of an accepted table, wherever it stands, into lent columns.
+pub fn lay<S: Source>(source: &S, lent: &mut Lent)
     requires { Sound (S.table source.now) }
-    ensures { Held (S.table source.now) result }
+    ensures { Held (S.table source.now) lent.new }
 {
-    let mut lent = Lent {
-        board: priced(source),
-        core: [0; 32],
-        latest: [0; 32],
-        tasks: Grouped::empty(),
-    };
+    lent.board = priced(source);
     table_columns::per_task(source, &mut lent.core, &mut lent.latest);
     let mut order = [0usize; 33];
     lent.tasks.begins = groups::grouped(lent.board.tasks, lent.board.cores, &lent.core, &mut order);
     table_columns::columns(source, &order, &mut lent.tasks);
-    lent
 }
 
 // Task number k of an accepted table, from a start that is not late: its answer, or none where F lowers the start.
@@ -58,7 +51,8 @@ pub fn judge_task(table: Table, k: u8, start: u64) -> Option<Answer>
     requires within { Within 1 table.tasks k × (start ≤ Tasks.latest (task_of table k)) }
     ensures { result ≡ climbed_for table k start }
 {
-    let lent = laid(&table);
+    let mut lent = Lent::empty();
+    lay(&table, &mut lent);
     let i = (k as usize) - 1;
     let p = (lent.core[i] as usize) - 1;
     let place = standing::place(i, lent.tasks.begins[p], &lent.core);
@@ -71,5 +65,7 @@ pub fn judge_tasks(table: Table, starts: [u64; 32]) -> Result<[Answer; 32], Refu
     requires { is_accepted (check_judged table) ≡ true }
     ensures { result ≡ granted (judge_all table starts).refusal (judge_all table starts).answers }
 {
-    rounds::judge_lent(&laid(&table), &starts)
+    let mut lent = Lent::empty();
+    lay(&table, &mut lent);
+    rounds::judge_lent(&lent, &starts)
 }

@@ -1,13 +1,23 @@
 -- A task's own figures from lent columns. Places are counted from 0. Assumes nothing.
-use Rattle.std.specs.Prelude.{ℕ, ◌-◌, get_or}
+use Rattle.std.specs.Prelude.{ℕ, ◌-◌, replicate, get_or}
 use Rattle.laws.specs.Idioms.{entry}
 use Rattle.rules.specs.declared.Picos.{Picos}
 use Rattle.prices.specs.declared.CoreCosts.{CoreCosts}
 use Rattle.prices.specs.Costs.{no_costs}
+use Rattle.counts.specs.Counts.{no_tasks}
 use Rattle.floors.specs.declared.Others.{Others}
 use Rattle.floors.specs.Floors.{twice_on, others_with}
 use Rattle.terms.specs.declared.Own.{Own}
 use Rattle.own.specs.declared.Lent.{Lent}
+
+-- columns of no tasks
+abbrev pub no_lent : Lent
+no_lent = record {
+  board = record { tasks = 0; cores = 0; costs = replicate 8 no_costs };
+  core = replicate 32 0;
+  latest = replicate 32 0;
+  tasks = no_tasks;
+}
 
 abbrev pub own_with : ℕ → ℕ → ℕ → Picos → Others → ℕ → ℕ → Own
 own_with exec requests latest delay others first place =

@@ -4,7 +4,7 @@
 ghost use Rattle.std.specs.Prelude.{◌≡◌, ◌≤◌, ◌<◌, length, get_or};
 ghost use Rattle.laws.specs.Idioms.{Within};
 ghost use Rattle.floors.specs.Floors.{Doubled, Fits};
-ghost use Rattle.own.specs.Own.{cost_at, own_of};
+ghost use Rattle.own.specs.Own.{no_lent, cost_at, own_of};
 
 use counts::Grouped;
 use prices::Priced;
@@ -20,7 +20,25 @@ pub struct Lent {
     pub tasks: Grouped,
 }
 
-// Those of the task in place i, which stands at `place` where the tasks are core after core: C and H, the latest allowed response, RD of its core and
+impl Lent {
+    // Columns of no tasks, to be filled in their places: what is returned by value is copied.
+    pub fn empty() -> Lent
+        ensures { result ≡ no_lent }
+    {
+        Lent {
+            board: Priced {
+                tasks: 0,
+                cores: 0,
+                costs: [prices::no_costs(); 8],
+            },
+            core: [0; 32],
+            latest: [0; 32],
+            tasks: Grouped::empty(),
+        }
+    }
+}
+
+// The figures of the task in place i, which stands at `place` where the tasks are core after core: C and H, the latest allowed response, RD of its core and
 // what it meets of the others, the place of its core's first task and its own.
 pub fn own_of(l: &Lent, doubled: &[u64; 8], i: usize, place: usize) -> Own
     requires here { (i < 32) × Within 1 8 (get_or l.now.core i 0) × (place ≤ 32) }

@@ -7,6 +7,7 @@ ghost use Rattle.rules.specs.File.{decode};
 ghost use Rattle.rules.specs.Operations.{check_to_judge, judge_all};
 
 use file_prices::Accepted;
+use own::Lent;
 use rules::{Answer, Refusal};
 
 // 13 with the first late start, 14 with the first whose start F lowers, or every task's answer.
@@ -14,5 +15,7 @@ pub fn judge_accepted(file: &[u8], starts: [u64; 32]) -> Result<[Answer; 32], Re
     requires { is_accepted (check_to_judge file.now) ≡ true }
     ensures { result ≡ granted (judge_all (decode file.now) starts).refusal (judge_all (decode file.now) starts).answers }
 {
-    rounds::judge_lent(&columns::laid(&Accepted { file }), &starts)
+    let mut lent = Lent::empty();
+    columns::lay(&Accepted { file }, &mut lent);
+    rounds::judge_lent(&lent, &starts)
 }

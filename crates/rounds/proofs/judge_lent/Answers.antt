@@ -58,7 +58,7 @@ pub loop-i-preserved : goal.loop-i-preserved
 loop-i-preserved c =
     let p = (goal.at.loop-i-preserved c).In-loop-i in (
       goes_on_low c.args.l.now c.args.starts.now c.in_ok-late.ensures c.loop-i.i c.loop-i.invariant.0 (here p) (few p)
-      (sym c.in-Some.is ∙ c.judge_at.ensures ∙ at_number c.args.l.now c.args.starts.now c.loop-i.i),
+          (sym c.in-Some.is ∙ c.judge_at.ensures ∙ at_number c.args.l.now c.args.starts.now c.loop-i.i),
       nexts_next c.args.l.now.core c.loop-i.i (core_in p) c.loop-i.invariant.1 refl,
     )
 

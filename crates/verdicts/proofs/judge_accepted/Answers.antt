@@ -6,16 +6,16 @@ use Rattle.columns.proofs.AllJudged.{judged_is}
 use Rattle.file.proofs.Reading.{file_sound}
 use Rattle.verdicts.proofs.judge_accepted.Goals as goal
 
-pub invariant_of-laid : goal.invariant_of-laid
-invariant_of-laid c = record { accepted = judged_file _ c.requires }
+pub invariant_of-lay : goal.invariant_of-lay
+invariant_of-lay c = record { accepted = judged_file _ c.requires }
 
-pub laid-requires : goal.laid-requires
-laid-requires c = file_sound _ (judged_file _ c.requires)
+pub lay-requires : goal.lay-requires
+lay-requires c = file_sound _ (judged_file _ c.requires)
 
 pub judge_lent-requires : goal.judge_lent-requires
 judge_lent-requires c =
-    of_judgeable (decode c.args.file.now) (file_sound _ (judged_file _ c.requires)) c.laid.ensures
+    of_judgeable (decode c.args.file.now) (file_sound _ (judged_file _ c.requires)) c.lay.ensures
 
 pub returns : goal.returns
 returns c =
-    rw (c.judge_lent.ensures, judged_is (decode c.args.file.now) (judged-table _ c.requires) c.laid.ensures c.args.starts)
+    rw (c.judge_lent.ensures, judged_is (decode c.args.file.now) (judged-table _ c.requires) c.lay.ensures c.args.starts)
