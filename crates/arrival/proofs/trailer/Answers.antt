@@ -14,6 +14,6 @@ pub returns : goal.returns
 unfolding check_trailer
 returns c = goes_on_to _ _ _ _ (rw c.le32.ensures at c.in_ok-refuse_if.ensures)
     (elim c.if-sum_differs.branch [
-      then-sum_differs w ↦ c.refuse_if-2.ensures ∙ rw (w.refuse_if-is, c.le32-2.ensures, c.sums-total.ensures, ne_eqb _ _ (rw (c.le32-2.ensures, c.sums-total.ensures) at w.if-sum_differs.true)) refl
-    | else-sum_differs w ↦ c.refuse_if-2.ensures ∙ rw (w.refuse_if-is, c.le32-3.ensures, c.sums-total.ensures, eq-eqb _ _ (rw (c.le32-2.ensures, c.sums-total.ensures) at w.if-sum_differs.false)) refl
+      | then-sum_differs w ↦ c.refuse_if-2.ensures ∙ rw (w.refuse_if-is, c.le32-2.ensures, c.sums-total.ensures, ne_eqb _ _ (rw (c.le32-2.ensures, c.sums-total.ensures) at w.if-sum_differs.true)) refl
+      | else-sum_differs w ↦ c.refuse_if-2.ensures ∙ rw (w.refuse_if-is, c.le32-3.ensures, c.sums-total.ensures, eq-eqb _ _ (rw (c.le32-2.ensures, c.sums-total.ensures) at w.if-sum_differs.false)) refl
     ])
