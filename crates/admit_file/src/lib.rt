@@ -7,6 +7,7 @@ ghost use Rattle.rules.specs.Operations.{check_to_judge, read_to_judge};
 
 use basics::says_salvaged;
 use chain::refuse_if;
+use places::Header;
 use rules::{Refusal, Table};
 
 // The refusal alone.
@@ -14,7 +15,7 @@ pub fn check(file: &[u8]) -> Result<(), Refusal>
     ensures { result ≡ granted (check_to_judge file.now) tt }
 {
     file::check(file)?;
-    refuse_if(says_salvaged(file[3]), 18, 0)
+    refuse_if(says_salvaged(Header::of(file).form), 18, 0)
 }
 
 // With the table, which is given only where it is to be judged.

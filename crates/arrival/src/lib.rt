@@ -6,6 +6,7 @@ ghost use Rattle.rules.specs.Chain.{granted};
 ghost use Rattle.rules.specs.File.{check_whole, check_trailer};
 
 use chain::refuse_if;
+use places::Header;
 use rules::Refusal;
 
 // 3 and 4, of a file that has the right length.
@@ -28,10 +29,8 @@ pub fn whole(file: &[u8]) -> Result<(), Refusal>
     ensures { result ≡ granted (check_whole file.now) tt }
 {
     refuse_if(file.len() < 46, 1, 0)?;
-    refuse_if(
-        file.len() != places::file_length(file[3], file[0], file[2]),
-        2,
-        0,
-    )?;
+    let header = Header::of(file);
+    let length = places::file_length(header.form, header.cores, header.tasks);
+    refuse_if(file.len() != length, 2, 0)?;
     trailer(file)
 }

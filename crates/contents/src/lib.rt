@@ -10,6 +10,7 @@ ghost use Rattle.rules.specs.File.{records_at, record_at, cores_in, form_in, fir
 ghost use Rattle.contents.specs.Tasks.{tasks_to};
 
 use chain::refuse_if;
+use places::Header;
 use rules::{Refusal, Table, Task};
 
 // 5 to 8 and 16, of a file that reaches the end of its sets. Sets that have no room in a table are refused by their count before they are looked at.
@@ -17,19 +18,19 @@ pub fn board(file: &[u8]) -> Result<(), Refusal>
     requires { records_at (form_in file.now) (cores_in file.now) ≤ length file.now }
     ensures { result ≡ granted (check_board (decode file.now)) tt }
 {
-    refuse_if(8 < file[0], 5, 0)?;
-    let sets = fields::sets_in(file);
+    let header = Header::of(file);
+    refuse_if(8 < header.cores, 5, 0)?;
     checks::board_refusal(
-        file[0],
-        file[1],
-        file[2],
-        file[3],
+        header.cores,
+        header.partitions,
+        header.tasks,
+        header.form,
         fields::row_in(file),
-        &sets,
+        &fields::sets_in(file),
     )
 }
 
-// The tasks of the first n records, and no task in the other places.
+// The tasks of the first n records, and no task in the other places. The loop is as short as a call of one function for it and `fields::figures` would be.
 fn tasks(file: &[u8], n: usize) -> [Task; 32]
     requires n_bound { n ≤ 32 }
     requires n_in_bounds { record_at (form_in file.now) (cores_in file.now) (n + 1) ≤ length file.now }
@@ -49,9 +50,10 @@ pub fn table(file: &[u8], fourth: u8, n: u8) -> Table
     requires n_in_bounds { record_at (form_in file.now) (cores_in file.now) (n + 1) ≤ length file.now }
     ensures { result ≡ first_tasks file.now fourth n }
 {
+    let header = Header::of(file);
     Table {
-        cores: file[0],
-        partitions: file[1],
+        cores: header.cores,
+        partitions: header.partitions,
         tasks: n,
         fourth,
         timing: fields::row_in(file),

@@ -7,6 +7,7 @@ ghost use Rattle.rules.specs.Tasks.{task_of};
 ghost use Rattle.rules.specs.File.{records_at, record_size, record_at, record_task, record_in, cores_in, tasks_in, form_in, decode};
 ghost use Rattle.fields.specs.Places.{Sized, figures_in, sets_of};
 
+use places::Header;
 use rules::{Picos, Task};
 
 // The record in place i, as a part of the file.
@@ -15,9 +16,9 @@ pub fn record_in<'a>(file: &'a [u8], i: usize) -> &'a [u8]
     requires file_in_bounds { record_at (form_in file.now) (cores_in file.now) (i + 1) + record_size (form_in file.now) ≤ length file.now }
     ensures { result.now ≡ record_in file.now (i + 1) }
 {
-    let form = file[3];
-    let a = places::record_at(form, file[0], i);
-    let e = a + places::record_size(form);
+    let header = Header::of(file);
+    let a = places::record_at(header.form, header.cores, i);
+    let e = a + places::record_size(header.form);
     &file[a..e]
 }
 
@@ -81,5 +82,10 @@ pub fn sets_in(file: &[u8]) -> [u16; 8]
     requires file_in_bounds { records_at (form_in file.now) (cores_in file.now) ≤ length file.now }
     ensures { result ≡ sets_of file.now }
 {
-    figures(file, places::sets_at(file[3]), usize::from(file[0]))
+    let header = Header::of(file);
+    figures(
+        file,
+        places::sets_at(header.form),
+        usize::from(header.cores),
+    )
 }

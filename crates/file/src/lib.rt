@@ -9,6 +9,7 @@ ghost use Rattle.rules.specs.Refusals.{check_tasks, check_table};
 ghost use Rattle.rules.specs.Operations.{taking, reading, check_file};
 ghost use Rattle.fields.specs.Places.{Sized};
 
+use places::Header;
 use rules::{Refusal, Table};
 
 // ---- the second part: of a file that came whole. Nothing outside this crate can call these
@@ -18,11 +19,10 @@ fn records_in(file: &[u8]) -> Result<(), Refusal>
     requires { Sized file.now }
     ensures { result ≡ granted (check_tasks (decode file.now)) tt }
 {
-    tasks::check_each(
-        file[0],
-        file[2],
-        |k| fields::task_at(file, usize::from(k) - 1),
-    )
+    let header = Header::of(file);
+    tasks::check_each(header.cores, header.tasks, |k| {
+        fields::task_at(file, usize::from(k) - 1)
+    })
 }
 
 // 5 to 11 and 16, from the bytes: no table is made.
@@ -40,7 +40,8 @@ fn take(file: &[u8]) -> Result<Table, Refusal>
     ensures { result ≡ granted (taking file.now).refusal (taking file.now).table }
 {
     figures_refusal(file)?;
-    Ok(contents::table(file, file[3], file[2]))
+    let header = Header::of(file);
+    Ok(contents::table(file, header.form, header.tasks))
 }
 
 // ---- the first part and then the second

@@ -5,6 +5,7 @@ ghost use Rattle.std.specs.Prelude.{◌≡◌, ◌+◌, ◌≤◌, length};
 ghost use Rattle.rules.specs.File.{records_at, cores_in, form_in};
 ghost use Rattle.rules.specs.Salvage.{task_fault, is_sound, kept};
 
+use places::Header;
 use rules::Task;
 
 // Do 9 to 11 find a fault in a task?
@@ -20,9 +21,9 @@ fn is_sound(file: &[u8], i: usize) -> bool
     requires file_in_bounds { records_at (form_in file.now) (cores_in file.now) ≤ length file.now }
     ensures { result ≡ is_sound file.now (i + 1) }
 {
-    let form = file[3];
-    let end = places::record_at(form, file[0], i) + places::record_size(form);
-    end <= file.len() && !task_fault(file[0], fields::record_task(file, i))
+    let header = Header::of(file);
+    let end = places::record_at(header.form, header.cores, i) + places::record_size(header.form);
+    end <= file.len() && !task_fault(header.cores, fields::record_task(file, i))
 }
 
 // How many are kept, of a file that reaches the end of its sets.
@@ -30,7 +31,7 @@ pub fn count(file: &[u8]) -> u8
     requires { records_at (form_in file.now) (cores_in file.now) ≤ length file.now }
     ensures { result ≡ kept file.now }
 {
-    let promised = file[2];
+    let promised = Header::of(file).tasks;
     for i in 0..promised {
         if !is_sound(file, usize::from(i)) {
             return i;

@@ -1,15 +1,40 @@
 // Where the parts of a table file stand, and how long it is, by its header's bytes.
 #![tactic(auto)]
 
-ghost use Rattle.std.specs.Prelude.{◌≡◌, ◌+◌, ◌<◌, ◌≤◌};
+ghost use Rattle.std.specs.Prelude.{◌≡◌, ◌+◌, ◌<◌, ◌≤◌, length};
 ghost use Rattle.rules.specs.File.{sets_at, record_size, record_at, file_length};
+ghost use Rattle.places.specs.Header.{header_in};
+
+// The four bytes that a file begins with (RULES 7.1).
+#[derive(Clone, Copy)]
+pub struct Header {
+    pub cores: u8,
+    pub partitions: u8,
+    pub tasks: u8,
+    pub form: u8,
+}
+
+impl Header {
+    // Those of a file.
+    pub fn of(file: &[u8]) -> Header
+        requires { 4 ≤ length file.now }
+        ensures { result ≡ header_in file.now }
+    {
+        Header {
+            cores: file[0],
+            partitions: file[1],
+            tasks: file[2],
+            form: file[3],
+        }
+    }
+}
 
 // A count as a size.
 pub fn size(x: u8) -> usize
     ensures value { result ≡ x }
     ensures upper_bound { result < 256 }
 {
-    x as usize
+    usize::from(x)
 }
 
 // RULES 7.1: the bytes before the sets.

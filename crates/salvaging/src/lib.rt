@@ -11,6 +11,7 @@ ghost use Rattle.writer.specs.Answers.{Wrote};
 ghost use Rattle.salvaging.specs.Front.{check_front, salvaged_by, Salvages};
 
 use chain::refuse_if;
+use places::Header;
 use rules::{Refusal, Salvage};
 
 // 19; 17 where the file ends before its sets do; 5 to 8 and 16.
@@ -18,8 +19,10 @@ fn front_refusal(file: &[u8]) -> Result<(), Refusal>
     ensures { result ≡ granted (check_front file.now) tt }
 {
     refuse_if(file::check(file).is_ok(), 19, 0)?;
-    let ends_early = file.len() < 4 || file.len() < places::record_at(file[3], file[0], 0);
-    refuse_if(ends_early, 17, 0)?;
+    refuse_if(file.len() < 4, 17, 0)?;
+    let header = Header::of(file);
+    let records = places::record_at(header.form, header.cores, 0);
+    refuse_if(file.len() < records, 17, 0)?;
     contents::board(file)
 }
 
@@ -30,7 +33,8 @@ fn write_kept(file: &[u8], n: u8, out: &mut [u8]) -> Result<usize, Refusal>
     requires n_value { n ≡ kept file.now }
     ensures { Wrote (salvaged_table file.now) out.old result out.new }
 {
-    let table = contents::table(file, basics::mark_salvaged(file[3]), n);
+    let form = Header::of(file).form;
+    let table = contents::table(file, basics::mark_salvaged(form), n);
     writer::write(table, out)
 }
 
@@ -47,7 +51,7 @@ pub fn salvage(file: &[u8], out: &mut [u8]) -> Result<Salvage, Refusal>
     ensures { Salvages file.now out.old result out.new }
 {
     front_refusal(file)?;
-    let promised = file[2];
+    let promised = Header::of(file).tasks;
     let kept = kept::count(file);
     refuse_if(kept == 0, 17, 0)?;
     let length = write_kept(file, kept, out)?;

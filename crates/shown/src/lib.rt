@@ -4,6 +4,8 @@
 ghost use Rattle.std.specs.Prelude.{◌≡◌};
 ghost use Rattle.shown.specs.Shown.{task_count, record_place};
 
+use places::Header;
+
 // How many tasks a file has, 0 where it is refused.
 pub fn task_count(file: &[u8]) -> usize
     ensures { result ≡ task_count file.now }
@@ -11,7 +13,7 @@ pub fn task_count(file: &[u8]) -> usize
     if file::check(file).is_err() {
         return 0;
     }
-    usize::from(file[2])
+    usize::from(Header::of(file).tasks)
 }
 
 // Where a task's record starts in the file, 0 where there is none: the position of what `view::view` shows.
@@ -21,5 +23,6 @@ pub fn record_place(file: &[u8], task: u8) -> usize
     if view::view_refusal(file, task).is_err() {
         return 0;
     }
-    places::record_at(file[3], file[0], usize::from(task) - 1)
+    let header = Header::of(file);
+    places::record_at(header.form, header.cores, usize::from(task) - 1)
 }

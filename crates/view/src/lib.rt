@@ -7,6 +7,7 @@ ghost use Rattle.rules.specs.Operations.{check_view, viewing};
 
 use basics::outside;
 use chain::refuse_if;
+use places::Header;
 use rules::Refusal;
 
 // 1 to 12 and 16.
@@ -14,7 +15,8 @@ pub fn view_refusal(file: &[u8], k: u8) -> Result<(), Refusal>
     ensures { result ≡ granted (check_view file.now k) tt }
 {
     file::check(file)?;
-    refuse_if(outside(1, u64::from(file[2]), u64::from(k)), 12, 0)
+    let tasks = Header::of(file).tasks;
+    refuse_if(outside(1, u64::from(tasks), u64::from(k)), 12, 0)
 }
 
 // Viewing (RULES 7.4); what is refused shows no byte (RULES 9.2).

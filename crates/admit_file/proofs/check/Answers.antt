@@ -10,9 +10,9 @@ pub returns-in_err-check : goal.returns-in_err-check
 unfolding check_to_judge
 returns-in_err-check c = stops_at _ _ _ _ c.from_residual.ensures.1 c.in_err-check.ensures
 
-pub bounds-file-3 : goal.bounds-file-3
-bounds-file-3 c = omega (arith, (file_sized _ (was-allowed _ _ (sym c.in_ok-check.ensures)).0).long)
+pub of-requires : goal.of-requires
+of-requires c = omega (arith, (file_sized _ (was-allowed _ _ (sym c.in_ok-check.ensures)).0).long)
 
 pub returns : goal.returns
 unfolding check_to_judge
-returns c = goes_on_to _ _ _ _ c.in_ok-check.ensures (rw c.says_salvaged.ensures at c.refuse_if.ensures)
+returns c = goes_on_to _ _ _ _ c.in_ok-check.ensures (rw (c.says_salvaged.ensures, c.of.ensures) at c.refuse_if.ensures)

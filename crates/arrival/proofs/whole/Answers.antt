@@ -17,29 +17,23 @@ pub returns-in_err-refuse_if : goal.returns-in_err-refuse_if
 unfolding check_whole
 returns-in_err-refuse_if c = stops_at _ _ _ _ c.from_residual.ensures.1 (stops_at _ _ _ (tt {0}) refl c.in_err-refuse_if.ensures)
 
-pub bounds-file-3 : goal.bounds-file-3
-bounds-file-3 c = omega (arith, long-enough c.in_ok-refuse_if.ensures)
-
-pub bounds-file-0 : goal.bounds-file-0
-bounds-file-0 c = omega (arith, long-enough c.in_ok-refuse_if.ensures)
-
-pub bounds-file-2 : goal.bounds-file-2
-bounds-file-2 c = omega (arith, long-enough c.in_ok-refuse_if.ensures)
+pub of-header-requires : goal.of-header-requires
+of-header-requires c = omega (arith, long-enough c.in_ok-refuse_if.ensures)
 
 pub returns-in_err-refuse_if-2 : goal.returns-in_err-refuse_if-2
 unfolding check_whole
 returns-in_err-refuse_if-2 c =
     stops_at _ _ _ _ c.from_residual-in_err-refuse_if-2.ensures.1
-    (goes_on_to _ _ _ (tt {0}) c.in_ok-refuse_if.ensures (rw c.file_length.ensures.value at c.in_err-refuse_if-2.ensures))
+    (goes_on_to _ _ _ (tt {0}) c.in_ok-refuse_if.ensures (rw (c.file_length-length.ensures.value, c.of-header.ensures) at c.in_err-refuse_if-2.ensures))
 
 pub trailer-requires-clause-in_bounds : goal.trailer-requires-clause-in_bounds
 trailer-requires-clause-in_bounds c = omega (arith, long-enough c.in_ok-refuse_if.ensures)
 
 pub trailer-requires-clause-file_len_bound : goal.trailer-requires-clause-file_len_bound
 trailer-requires-clause-file_len_bound c =
-    omega (arith, c.file_length.ensures.upper_bound, eqb-true _ _ (not-false _ (was-faultless 2 0 _ (tt {0}) (omega arith) c.in_ok-refuse_if-2.ensures)))
+    omega (arith, c.file_length-length.ensures.upper_bound, eqb-true _ _ (not-false _ (was-faultless 2 0 _ (tt {0}) (omega arith) c.in_ok-refuse_if-2.ensures)))
 
 pub returns : goal.returns
 unfolding check_whole
 returns c =
-    goes_on_to _ _ _ _ (goes_on_to _ _ _ (tt {0}) c.in_ok-refuse_if.ensures (rw c.file_length.ensures.value at c.in_ok-refuse_if-2.ensures)) c.trailer.ensures
+    goes_on_to _ _ _ _ (goes_on_to _ _ _ (tt {0}) c.in_ok-refuse_if.ensures (rw (c.file_length-length.ensures.value, c.of-header.ensures) at c.in_ok-refuse_if-2.ensures)) c.trailer.ensures

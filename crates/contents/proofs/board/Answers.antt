@@ -9,35 +9,23 @@ use Rattle.fields.proofs.Steps.{header-there}
 use Rattle.contents.proofs.Steps.{counted-out}
 use Rattle.contents.proofs.board.Goals as goal
 
-pub bounds-file-0 : goal.bounds-file-0
-bounds-file-0 c = omega (arith, header-there c.args.file.now c.requires)
+pub of-header-requires : goal.of-header-requires
+of-header-requires c = omega (arith, header-there c.args.file.now c.requires)
 
 pub returns-in_err-refuse_if : goal.returns-in_err-refuse_if
 returns-in_err-refuse_if c =
-    let was = was-faulty 5 0 _ (tt {0}) (omega arith) c.in_err-refuse_if.ensures in
+    let was = was-faulty 5 0 _ (tt {0}) (omega arith) (rw c.of-header.ensures at c.in_err-refuse_if.ensures) in
     returned _ c.from_residual.ensures.1 ∙ rw was.1 (counted-out _ (ltb-true 8 _ was.0))
 
-pub sets_in-sets-requires : goal.sets_in-sets-requires
-sets_in-sets-requires c = record {
-  file_bound = ltb-false 8 _ (was-faultless 5 0 _ (tt {0}) (omega arith) c.in_ok-refuse_if.ensures);
+pub sets_in-requires : goal.sets_in-requires
+sets_in-requires c = record {
+  file_bound = ltb-false 8 _ (was-faultless 5 0 _ (tt {0}) (omega arith) (rw c.of-header.ensures at c.in_ok-refuse_if.ensures));
   file_in_bounds = c.requires;
 }
-
-pub bounds-file-0-2 : goal.bounds-file-0-2
-bounds-file-0-2 c = omega (arith, header-there c.args.file.now c.requires)
-
-pub bounds-file-1 : goal.bounds-file-1
-bounds-file-1 c = omega (arith, header-there c.args.file.now c.requires)
-
-pub bounds-file-2 : goal.bounds-file-2
-bounds-file-2 c = omega (arith, header-there c.args.file.now c.requires)
-
-pub bounds-file-3 : goal.bounds-file-3
-bounds-file-3 c = omega (arith, header-there c.args.file.now c.requires)
 
 pub row_in-requires : goal.row_in-requires
 row_in-requires c = omega (arith, header-there c.args.file.now c.requires)
 
 pub returns : goal.returns
 unfolding check_board decode
-returns c = c.board_refusal.ensures ∙ rw (c.row_in.ensures, c.sets_in-sets.ensures)
+returns c = c.board_refusal.ensures ∙ rw (c.of-header.ensures, c.row_in.ensures, c.sets_in.ensures)

@@ -12,11 +12,8 @@ use Rattle.contents.proofs.table.Goals as goal
 long : (s : List ℕ) (n : ℕ) → record_at (form_in s) (cores_in s) (n + 1) ≤ length s → 34 ≤ length s
 long s n reaches = header-there s (sets-there s n reaches)
 
-pub bounds-file-0 : goal.bounds-file-0
-bounds-file-0 c = omega (arith, long c.args.file.now c.args.n c.requires.n_in_bounds)
-
-pub bounds-file-1 : goal.bounds-file-1
-bounds-file-1 c = omega (arith, long c.args.file.now c.args.n c.requires.n_in_bounds)
+pub of-header-requires : goal.of-header-requires
+of-header-requires c = omega (arith, long c.args.file.now c.args.n c.requires.n_in_bounds)
 
 pub row_in-requires : goal.row_in-requires
 row_in-requires c = long c.args.file.now c.args.n c.requires.n_in_bounds
@@ -28,4 +25,4 @@ pub tasks-requires : goal.tasks-requires
 tasks-requires c = record { n_bound = omega (arith, c.from.ensures, c.requires.file_bound.1); n_in_bounds = rw c.from.ensures c.requires.n_in_bounds }
 
 pub returns : goal.returns
-returns c = rw (c.row_in.ensures, c.sets_in.ensures, c.tasks.ensures, c.from.ensures)
+returns c = rw (c.of-header.ensures, c.row_in.ensures, c.sets_in.ensures, c.tasks.ensures, c.from.ensures)

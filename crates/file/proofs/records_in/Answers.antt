@@ -14,6 +14,9 @@ use Rattle.file.proofs.records_in.Goals as goal
 at : (t : Table) (k : ℕ) {x : Task} → 1 ≤ k → x ≡ task_of t (k - 1 + 1) → x ≡ task_of t k
 at t k low e = let same : k - 1 + 1 ≡ k = omega arith in rw same at e
 
+pub of-header-requires : goal.of-header-requires
+of-header-requires c = omega (arith, c.requires.long)
+
 pub returns : goal.returns
 unfolding check_tasks decode
-returns c = c.check_each.ensures (task_of (decode c.args.file.now)) (λ k x low high post. at (decode c.args.file.now) k low (search rules))
+returns c = rw c.of-header.ensures at c.check_each.ensures (task_of (decode c.args.file.now)) (λ k x low high post. at (decode c.args.file.now) k low (search rules))

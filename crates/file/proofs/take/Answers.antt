@@ -17,18 +17,15 @@ returns-in_err-figures_refusal c = returned _ c.from_residual.ensures.1 ∙ deni
 passed : (c : In_ok-figures_refusal) → is_accepted (check_table (decode c.args.file.now)) ≡ true
 passed c = (was-allowed _ _ (sym c.in_ok-figures_refusal.ensures)).0
 
-pub bounds-file-3 : goal.bounds-file-3
-bounds-file-3 c = omega (arith, (whole-sized _ c.requires).long)
-
-pub bounds-file-2 : goal.bounds-file-2
-bounds-file-2 c = omega (arith, (whole-sized _ c.requires).long)
+pub of-header-requires : goal.of-header-requires
+of-header-requires c = omega (arith, (whole-sized _ c.requires).long)
 
 pub table-requires : goal.table-requires
-table-requires c = record {
+table-requires c = rw c.of-header.ensures (record {
   file_bound = taken-counts _ (passed (goal.at.table-requires c).In_ok-figures_refusal);
   n_in_bounds = records-end c.args.file.now (whole-sized _ c.requires);
-}
+})
 
 pub returns : goal.returns
 unfolding decode
-returns c = rw c.table.ensures (sym (allowed _ _ (passed (goal.at.returns c).In_ok-figures_refusal))) ∙ sym (taken _)
+returns c = rw (c.table.ensures, c.of-header.ensures) (sym (allowed _ _ (passed (goal.at.returns c).In_ok-figures_refusal))) ∙ sym (taken _)

@@ -34,8 +34,8 @@ unfolding check_salvage check_front
 returns-in_err-front_refusal c =
     let h = c.from_residual.ensures.1 in refuses_all _ _ (returned _ h) (stops_at _ _ _ _ h (stays _ _ _ c.in_err-front_refusal.ensures))
 
-pub bounds-file-2 : goal.bounds-file-2
-bounds-file-2 c = omega (arith, long (goal.at.bounds-file-2 c).In_ok-front_refusal)
+pub of-promised-requires : goal.of-promised-requires
+of-promised-requires c = omega (arith, long (goal.at.of-promised-requires c).In_ok-front_refusal)
 
 pub count-kept-requires : goal.count-kept-requires
 count-kept-requires c = reached _ (front-late _ (front-passes (goal.at.count-kept-requires c).In_ok-front_refusal))
@@ -57,11 +57,12 @@ returns-in_err-length c =
     c.write_kept.ensures c.in_err-length.was (returned _ c.from_residual-in_err-length.ensures.1)
 
 pub stop-requires : goal.stop-requires
-stop-requires c = rw c.count-kept.ensures (kept-most _)
+stop-requires c = rw (c.count-kept.ensures, c.of-promised.ensures) (kept-most _)
 
 pub returns : goal.returns
 unfolding stopped
 returns c =
     let is = c.count-kept.ensures in
-    salvaged _ _ (front-passes (goal.at.returns c).In_ok-front_refusal) (some-kept (goal.at.returns c).In_ok-refuse_if)
-    c.write_kept.ensures c.in_ok-length.was is (c.stop.ensures ∙ rw is)
+    rw c.of-promised.ensures
+    (salvaged _ _ (front-passes (goal.at.returns c).In_ok-front_refusal) (some-kept (goal.at.returns c).In_ok-refuse_if)
+    c.write_kept.ensures c.in_ok-length.was is (c.stop.ensures ∙ rw (is, c.of-promised.ensures)))

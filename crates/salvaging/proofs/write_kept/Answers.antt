@@ -10,13 +10,13 @@ pub returns : goal.returns
 unfolding salvaged_table
 returns c =
     let is = c.requires.n_value in
-    rw (c.table-table.ensures, c.mark_salvaged.ensures, is) at c.write.ensures
+    rw (c.table-table.ensures, c.mark_salvaged.ensures, c.of-form.ensures, is) at c.write.ensures
 
-pub bounds-file-3 : goal.bounds-file-3
-bounds-file-3 c = omega (arith, header-there c.args.file.now (reached _ c.requires.file_value))
+pub of-form-requires : goal.of-form-requires
+of-form-requires c = omega (arith, header-there c.args.file.now (reached _ c.requires.file_value))
 
 pub mark_salvaged-requires : goal.mark_salvaged-requires
-mark_salvaged-requires c = (board-counts _ c.requires.file_value_2).2
+mark_salvaged-requires c = rw c.of-form.ensures (board-counts _ c.requires.file_value_2).2
 
 pub table-table-requires : goal.table-table-requires
 table-table-requires c =

@@ -17,11 +17,8 @@ passes c = asked_err _ _ c.view_refusal.ensures c.if-is_err.ensures.value
 pub returns-then-is_err : goal.returns-then-is_err
 returns-then-is_err c = sym (no_record _ _ (asked_err _ _ c.view_refusal.ensures c.if-is_err.ensures.value))
 
-pub bounds-file-3 : goal.bounds-file-3
-bounds-file-3 c = omega (arith, (viewed_sized _ _ (passes (goal.at.bounds-file-3 c).Else-is_err)).long)
-
-pub bounds-file-0 : goal.bounds-file-0
-bounds-file-0 c = omega (arith, (viewed_sized _ _ (passes (goal.at.bounds-file-0 c).Else-is_err)).long)
+pub of-header-requires : goal.of-header-requires
+of-header-requires c = omega (arith, (viewed_sized _ _ (passes (goal.at.of-header-requires c).Else-is_err)).long)
 
 pub overflow_sub-from : goal.overflow_sub-from
 overflow_sub-from c = omega (arith, c.from.ensures, viewed_task _ _ (passes (goal.at.overflow_sub-from c).Else-is_err))
@@ -31,4 +28,4 @@ returns c =
     let was = passes (goal.at.returns c).Else-is_err in
     let asked = viewed_task _ _ was in
     let back : c.from.result - 1 + 1 ≡ c.args.task = omega (arith, c.from.ensures) in
-    c.record_at.ensures.value ∙ rw back (sym (record_there _ _ was))
+    c.record_at.ensures.value ∙ rw (c.of-header.ensures, back) (sym (record_there _ _ was))

@@ -16,8 +16,8 @@ passes c = asked_err _ _ c.check.ensures c.if-is_err.ensures.value
 pub returns-then-is_err : goal.returns-then-is_err
 returns-then-is_err c = sym (no_tasks _ (asked_err _ _ c.check.ensures c.if-is_err.ensures.value))
 
-pub bounds-file-2 : goal.bounds-file-2
-bounds-file-2 c = omega (arith, (file_sized _ (passes (goal.at.bounds-file-2 c).Else-is_err)).long)
+pub of-requires : goal.of-requires
+of-requires c = omega (arith, (file_sized _ (passes (goal.at.of-requires c).Else-is_err)).long)
 
 pub returns : goal.returns
-returns c = c.from.ensures ∙ sym (tasks-there _ (passes (goal.at.returns c).Else-is_err))
+returns c = c.from.ensures ∙ rw c.of.ensures (sym (tasks-there _ (passes (goal.at.returns c).Else-is_err)))

@@ -1,0 +1,3 @@
+-- What a function promises beside the rules.
+--     Header  the four bytes that a file begins with
+pub mod Header
