@@ -35,10 +35,7 @@ pub fn mark_salvaged(fourth: u8) -> u8
     requires { fourth < 4 }
     ensures { result ≡ marked fourth }
 {
-    if says_salvaged(fourth) {
-        return fourth;
-    }
-    fourth + 2
+    fourth | 2
 }
 
 // The latest allowed response of a task: the one place that takes it from the figures.
@@ -52,17 +49,11 @@ pub fn latest(task: Task) -> u64
 pub fn outside(lowest: u64, highest: u64, x: u64) -> bool
     ensures { result ≡ not (within lowest highest x) }
 {
-    if x < lowest {
-        return true;
-    }
-    if highest < x {
-        return true;
-    }
-    false
+    !(lowest..=highest).contains(&x)
 }
 
 pub fn most(a: u64, b: u64) -> u64
     ensures { result ≡ max a b }
 {
-    if a < b { b } else { a }
+    a.max(b)
 }

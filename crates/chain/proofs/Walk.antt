@@ -2,7 +2,7 @@
 use mathlib.Core.Path.{◌≡◌, sym}
 use Rattle.rules.specs.declared.Refusal.{Refusal}
 use Rattle.std.specs.Prelude.{Err}
-use Rattle.rules.specs.Chain.{is_accepted, ◌or_else◌, granted}
+use Rattle.rules.specs.Chain.{◌or_else◌, granted}
 use Rattle.facts.proofs.Chain.{was-denied, denied, first-refuses}
 
 pub stays : {A : Type 0} (a b : Refusal) (x : A) {d : Refusal} → Err d ≡ granted a x → Err d ≡ granted (a or_else b) x

@@ -13,12 +13,13 @@ fn check_row(fourth: u8, row: [u16; 15]) -> Result<(), Refusal>
     ensures { result ≡ granted (check_row fourth row) tt }
 {
     if basics::says_bus(fourth) {
-        return timing::check_bus(row);
+        timing::check_bus(row)
+    } else {
+        timing::check(row)
     }
-    timing::check(row)
 }
 
-// 5 to 8 and 16: the board, by its counts, its timing figures and its sets.
+// 5 to 8 and 16: the board, by its counts, its timing figures and its sets. A struct of the six would be made of a table or of a file's bytes, and taken apart here.
 pub fn board_refusal(
     cores: u8,
     partitions: u8,

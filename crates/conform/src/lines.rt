@@ -1,5 +1,4 @@
 // Answers, piece by piece to standard output. After a write that failed there is no other.
-use console::part;
 use rules::{Answer, Delay, Refusal, Verdict};
 use std::io;
 
@@ -7,63 +6,44 @@ pub fn word(rt: HostRuntime, text: &[u8]) -> io::Result<()> {
     rt.write_all(text)
 }
 
-fn number(rt: HostRuntime, n: u64) -> io::Result<()> {
-    rt.print(n)
-}
-
-// A word and a number behind it.
-pub fn labelled(rt: HostRuntime, label: &[u8], n: u64) -> io::Result<()> {
-    word(rt, label)?;
-    number(rt, n)
-}
-
 // `refused N P`
 pub fn refused(rt: HostRuntime, refusal: Refusal) -> io::Result<()> {
-    labelled(rt, b"refused ", refusal.number as u64)?;
-    labelled(rt, b" ", refusal.place as u64)
+    print!(rt; "refused {} {}", refusal.number, refusal.place)
 }
 
-fn decided(by: Delay) -> u8 {
-    match by {
-        Delay::Request => 3,
-        Delay::Job => 4,
+// `holds BOUND request ROUNDS`, `holds BOUND job ROUNDS` or `misses ROUNDS`
+pub fn put_answer(rt: HostRuntime, answer: Answer) -> io::Result<()> {
+    let rounds = answer.rounds;
+    match answer.verdict {
+        Verdict::Misses => print!(rt; "misses {rounds}"),
+        Verdict::Holds(bound, Delay::Request) => print!(rt; "holds {} request {rounds}", bound.0),
+        Verdict::Holds(bound, Delay::Job) => print!(rt; "holds {} job {rounds}", bound.0),
     }
 }
 
-fn put_verdict(rt: HostRuntime, verdict: Verdict, words: &[u8]) -> io::Result<()> {
-    match verdict {
-        Verdict::Misses => word(rt, part(words, b'|', 1)),
-        Verdict::Holds(bound, by) => {
-            labelled(rt, part(words, b'|', 2), bound.0)?;
-            word(rt, part(words, b'|', decided(by)))
-        }
+// ` BOUND/r/ROUNDS`, ` BOUND/j/ROUNDS` or ` -/ROUNDS`
+fn put_field(rt: HostRuntime, answer: Answer) -> io::Result<()> {
+    let rounds = answer.rounds;
+    match answer.verdict {
+        Verdict::Misses => print!(rt; " -/{rounds}"),
+        Verdict::Holds(bound, Delay::Request) => print!(rt; " {}/r/{rounds}", bound.0),
+        Verdict::Holds(bound, Delay::Job) => print!(rt; " {}/j/{rounds}", bound.0),
     }
 }
 
-// An answer in four words: for a miss, before a bound, and behind a bound that the request delay decided or the job delay. The rounds stand last.
-pub fn put_answer(rt: HostRuntime, answer: Answer, words: &[u8]) -> io::Result<()> {
-    put_verdict(rt, answer.verdict, words)?;
-    number(rt, answer.rounds)
-}
-
-// 32 fields: ` BOUND/r/ROUNDS`, ` BOUND/j/ROUNDS` or ` -/ROUNDS`
+// A field for each of 32 answers.
 pub fn put_fields(rt: HostRuntime, answers: [Answer; 32]) -> io::Result<()> {
     for answer in &answers {
-        put_answer(rt, *answer, b" -/| |/r/|/j/")?;
+        put_field(rt, *answer)?;
     }
     Ok(())
-}
-
-// A byte in two hexadecimal digits.
-fn put_byte(rt: HostRuntime, b: u8) -> io::Result<()> {
-    print!(rt; "{b:02x}")
 }
 
 // `part HEX`: bytes as lowercase hexadecimal.
 pub fn put_part(rt: HostRuntime, s: &[u8]) -> io::Result<()> {
     word(rt, b"part ")?;
     for b in s {
-        put_byte(rt, *b)?;
+        print!(rt; "{b:02x}")?;
     }
     Ok(())
 }

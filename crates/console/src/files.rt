@@ -1,26 +1,25 @@
 // Reading, and writing to standard output. Where a call fails a line says why.
 use crate::notes::{name_of, note, note_error};
+use lent_bytes::front;
 use std::fs::{File, OpenOptions};
 use std::io::{Read, Write};
 use std::{fs, io, str};
 
-// How many bytes were read, or that a read failed.
+// Something could not be read or written, or the words were wrong. A line on standard error has said what.
 #[derive(Clone, Copy)]
-pub enum Got {
-    Bytes(usize),
-    Failed,
-}
+pub struct Failed;
 
 // `list: NAME: No such file or directory`
-fn failed(rt: HostRuntime, who: &[u8], name: &[u8], error: io::Error) {
+fn say_why(rt: HostRuntime, who: &[u8], name: &[u8], error: io::Error) -> Failed {
     note(rt, who);
     note(rt, name);
     note(rt, b": ");
     note_error(rt, error);
     note(rt, b"\n");
+    Failed
 }
 
-// Until the buffer is full, the input ends or a read fails.
+// Until the buffer is full, the input ends or a read fails. A turn goes on by as much as was read, so it is no `for`.
 fn fill(from: &mut impl Read, buf: &mut [u8]) -> io::Result<usize> {
     let mut done: usize = 0;
     while done < buf.len() {
@@ -33,25 +32,11 @@ fn fill(from: &mut impl Read, buf: &mut [u8]) -> io::Result<usize> {
     Ok(done)
 }
 
-// What was read of what has this name.
-fn received(rt: HostRuntime, who: &[u8], name: &[u8], got: io::Result<usize>) -> Got {
-    match got {
-        Ok(n) => Got::Bytes(n),
-        Err(error) => {
-            failed(rt, who, name, error);
-            Got::Failed
-        }
-    }
-}
-
 // std opens only what has a name of UTF-8: another is refused as a file system that wants UTF-8 refuses it, by EILSEQ.
 const NOT_TEXT: i32 = 84;
 
 fn path_of(name: &[u8]) -> io::Result<&str> {
-    match str::from_utf8(name) {
-        Ok(path) => Ok(path),
-        Err(_) => Err(io::Error::from_raw_os_error(NOT_TEXT)),
-    }
+    str::from_utf8(name).map_err(|_| io::Error::from_raw_os_error(NOT_TEXT))
 }
 
 fn read_named(rt: HostRuntime, name: &[u8], buf: &mut [u8]) -> io::Result<usize> {
@@ -59,14 +44,28 @@ fn read_named(rt: HostRuntime, name: &[u8], buf: &mut [u8]) -> io::Result<usize>
     fill(&mut file, buf)
 }
 
+// Where a file is: on standard input, or where the i-th word says.
+#[derive(Clone, Copy)]
+pub enum Source {
+    Input,
+    Named(usize),
+}
+
 // As much of a file as the buffer has room for. A word of more than 65,536 bytes is read as none; neither names a file.
-pub fn load(rt: HostRuntime, who: &[u8], i: usize, buf: &mut [u8]) -> Got {
-    if i == 0 {
-        return received(rt, who, b"standard input", fill(&mut rt.stdin(), buf));
+pub fn load(rt: HostRuntime, who: &[u8], from: Source, buf: &mut [u8]) -> Result<usize, Failed> {
+    match from {
+        Source::Input => fill(&mut rt.stdin(), buf).map_err(|error| say_why(
+            rt,
+            who,
+            b"standard input",
+            error,
+        )),
+        Source::Named(i) => {
+            let mut room = [0u8; 65536];
+            let name = name_of(rt, i, &mut room);
+            read_named(rt, name, buf).map_err(|error| say_why(rt, who, name, error))
+        }
     }
-    let mut room = [0u8; 65536];
-    let name = name_of(rt, i, &mut room);
-    received(rt, who, name, read_named(rt, name, buf))
 }
 
 // The name must not be taken; a file that could not be written is removed again.
@@ -83,31 +82,19 @@ fn write_new(rt: HostRuntime, name: &[u8], content: &[u8]) -> io::Result<()> {
     written
 }
 
-// A new file, and whether it was made.
-pub fn make(rt: HostRuntime, who: &[u8], i: usize, content: &[u8]) -> bool {
+// A new file, where the i-th word says.
+pub fn make(rt: HostRuntime, who: &[u8], i: usize, content: &[u8]) -> Result<(), Failed> {
     let mut room = [0u8; 65536];
     let name = name_of(rt, i, &mut room);
-    match write_new(rt, name, content) {
-        Ok(()) => true,
-        Err(error) => {
-            failed(rt, who, name, error);
-            false
-        }
-    }
+    write_new(rt, name, content).map_err(|error| say_why(rt, who, name, error))
 }
 
 // `list: standard output: No space left on device`
-pub fn unwritten(rt: HostRuntime, who: &[u8], error: io::Error) {
-    failed(rt, who, b"standard output", error);
+pub fn unwritten(rt: HostRuntime, who: &[u8], error: io::Error) -> Failed {
+    say_why(rt, who, b"standard output", error)
 }
 
-// A text to standard output, and whether it was written.
-pub fn say(rt: HostRuntime, who: &[u8], text: &[u8]) -> bool {
-    match Print::write_all(&rt, text) {
-        Ok(()) => true,
-        Err(error) => {
-            unwritten(rt, who, error);
-            false
-        }
-    }
+// A text to standard output.
+pub fn say(rt: HostRuntime, who: &[u8], text: &[u8]) -> Result<(), Failed> {
+    Print::write_all(&rt, text).map_err(|error| unwritten(rt, who, error))
 }

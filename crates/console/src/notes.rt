@@ -1,17 +1,14 @@
 // Words on standard error. What cannot be written there cannot be told.
+use crate::files::Source;
+use crate::place::place_of;
 use lent_bytes::front;
+use rules::Refusal;
 use std::env::Env;
+use std::io;
 use std::io::{Cursor, Write};
-use std::{io, str};
 
 pub fn note(rt: HostRuntime, words: &[u8]) {
     let _written = Print::write_all(&rt.stderr(), words);
-}
-
-// Words and a number behind them.
-pub fn note_number(rt: HostRuntime, words: &[u8], n: u64) {
-    note(rt, words);
-    let _written = rt.stderr().print(n);
 }
 
 // The system's own words for an error: `No such file or directory`, behind which std writes ` (os error 2)`.
@@ -24,79 +21,29 @@ pub fn note_error(rt: HostRuntime, error: io::Error) {
 
 fn without_number(text: &[u8]) -> &[u8] {
     let mark = b" (os error ";
-    for i in 0..text.len() {
-        if text[i..].starts_with(mark) {
-            return &text[..i];
-        }
+    match text
+        .windows(mark.len())
+        .position(|part| part == mark.as_slice())
+    {
+        Some(n) => front(text, n),
+        None => text,
     }
-    text
 }
 
 // The bytes of a word, in a room for them; none where they do not fit.
 pub fn name_of(rt: HostRuntime, i: usize, room: &mut [u8]) -> &[u8] {
-    let n = match rt.arg(i, room) {
-        Ok(n) => n,
-        Err(_) => 0,
-    };
+    let n = rt.arg(i, room).unwrap_or(0);
     front(room, n)
 }
 
-// The k-th part of a text, counted from 1, where `mark` stands between two parts; the last where there are fewer.
-pub fn part(s: &[u8], mark: u8, k: u8) -> &[u8] {
-    let i = if k == 0 { 0 } else { k - 1 };
-    pieces::piece(s, mark, i)
-}
-
-// The name of the k-th timing figure or relation, by kind from 1. Nothing else has a name.
-fn note_name(rt: HostRuntime, kind: u8, k: u8) {
-    let names = part(
-        b" (tCK)| (tRP)| (tRCD)| (CL)| (WL)| (BL)| (tWTR)| (tWR)| (tRRD)| (tFAW)| (tRAS)| (tRTP)| (tRTRS)| (Ncols)| (Ncap); \
-        (tWR >= tWTR)| (WL + BL/2 + tWTR >= CL)| (tRTP < CL + BL/2 + 2)| (tRCD + hit > tRAS)| (Ncols a multiple of BL);;; (s)|",
-        b';',
-        kind,
-    );
-    note(rt, part(names, b'|', k));
-}
-
-// `timing figure 4 (CL)`, `relation 2 (WL + BL/2 + tWTR >= CL)`, `core 3`, `task 3`, or of a bus table `timing figure 1 (s)`, by kind from 1.
-pub fn note_place(rt: HostRuntime, kind: u8, k: u8) {
-    note_number(
-        rt,
-        part(
-            b"timing figure |relation |core |task |timing figure ",
-            b'|',
-            kind,
-        ),
-        k as u64,
-    );
-    note_name(rt, kind, k);
-}
-
-// What the place of a refusal counts, as `note_place` has the kinds.
-fn kind(number: u8) -> u8 {
-    match number {
-        6..=8 => number - 5,
-        16 => 5,
-        _ => 4,
+fn note_file(rt: HostRuntime, file: Source) {
+    match file {
+        Source::Input => note(rt, b"standard input"),
+        Source::Named(i) => {
+            let mut room = [0u8; 65536];
+            note(rt, name_of(rt, i, &mut room));
+        }
     }
-}
-
-// ` at task 3`; nothing where a refusal has no place.
-fn note_at(rt: HostRuntime, number: u8, place: u8) {
-    if place == 0 {
-        return;
-    }
-    note(rt, b" at ");
-    note_place(rt, kind(number), place);
-}
-
-fn note_file(rt: HostRuntime, i: usize) {
-    if i == 0 {
-        note(rt, b"standard input");
-        return;
-    }
-    let mut room = [0u8; 65536];
-    note(rt, name_of(rt, i, &mut room));
 }
 
 fn note_reason(rt: HostRuntime, number: u8) {
@@ -105,15 +52,15 @@ fn note_reason(rt: HostRuntime, number: u8) {
     note(rt, front(&words, n));
 }
 
-// `list: NAME: refused 9 at task 3: a task's core is not one of the table's`, by the refusal's number and place; nothing where the number is 0.
-pub fn explain(rt: HostRuntime, who: &[u8], i: usize, number: u8, place: u8) {
-    if number == 0 {
-        return;
-    }
+// `list: NAME: refused 9 at task 3: a task's core is not one of the table's`
+pub fn explain(rt: HostRuntime, who: &[u8], file: Source, refusal: Refusal) {
     note(rt, who);
-    note_file(rt, i);
-    note_number(rt, b": refused ", number as u64);
-    note_at(rt, number, place);
+    note_file(rt, file);
+    let number = refusal.number;
+    let _written = eprint!(rt; ": refused {number}");
+    if let Some(place) = place_of(refusal) {
+        let _written = eprint!(rt; " at {place}");
+    }
     note(rt, b": ");
     note_reason(rt, number);
     note(rt, b"\n");

@@ -6,7 +6,6 @@ ghost use Rattle.laws.specs.Idioms.{◌⊖◌, larger};
 ghost use Rattle.rules.specs.Timing as Timing;
 ghost use Rattle.rules.specs.Delays.{pre, act, readwrite};
 
-use basics::most;
 use rules::Cycles;
 
 // The places of the figures in a row.
@@ -48,18 +47,11 @@ pub fn figure(row: [u16; 15], k: usize) -> u64
     row[k] as u64
 }
 
-// A difference that falls below zero is never the larger of two, so it is cut off at zero and does not wrap.
-pub fn less(a: u64, b: u64) -> u64
-    ensures { result ≡ a - b }
-{
-    if a < b { 0 } else { a - b }
-}
-
-// The larger of a and the difference of x and y.
+// The larger of a and the difference of x and y: one that falls below zero is never the larger, so it is cut off at zero and does not wrap.
 fn larger(a: u64, x: u64, y: u64) -> u64
     ensures { result ≡ larger a (x ⊖ y) }
 {
-    most(a, less(x, y))
+    a.max(x.saturating_sub(y))
 }
 
 // WL + BL/2 + tWTR: from a write to a read.
@@ -93,9 +85,9 @@ pub fn readwrite(row: [u16; 15]) -> Cycles
     let wl = figure(row, WL);
     let half = figure(row, BL) / 2;
     let rtrs = figure(row, TRTRS);
-    let mut longest = turn(row);
-    longest = larger(longest, cl + half + 2, wl);
-    longest = larger(longest, wl + half + rtrs, cl);
-    longest = larger(longest, cl + half + rtrs, wl);
+    let longest = turn(row);
+    let longest = larger(longest, cl + half + 2, wl);
+    let longest = larger(longest, wl + half + rtrs, cl);
+    let longest = larger(longest, cl + half + rtrs, wl);
     Cycles(larger(longest, half + rtrs, 0))
 }

@@ -10,12 +10,13 @@ pub fn spell(n: u64, d: &mut [u8]) -> usize
     ensures { Spelled n result d.new }
 {
     let mut m = n;
-    let mut i: usize = 19;
+    let mut i = 19;
+    // A while: the digits run out before the places do, and after a `for` over the places stands an answer that is never given.
     while 10 <= m {
-        d[i] = 48 + (m % 10) as u8;
-        m = m / 10;
+        d[i] = b'0' + (m % 10) as u8;
+        m /= 10;
         i -= 1;
     }
-    d[i] = 48 + m as u8;
+    d[i] = b'0' + m as u8;
     i
 }

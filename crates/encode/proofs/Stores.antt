@@ -4,7 +4,7 @@ use mathlib.Core.List.{List, ◌++◌, map}
 use Prim.Native.Nat.{ℕ, ◌+◌, ◌≤◌}
 use native.Mathlib.Omega.{arith}
 use lib.ListN.{length, length-append, take}
-use lib.Seq.{sets, take_all}
+use lib.Seq.{sets}
 use Rattle.rules.specs.declared.Table.{Table}
 use Rattle.rules.specs.Tasks.{tasks_of}
 use Rattle.rules.specs.File.{sets_at, records_at, record_size, file_length, record_bytes, body}
@@ -34,7 +34,7 @@ module _ (t : Table) (figures : length t.timing ≡ 15) (places : length t.sets 
       rw (length-append (counts t ++ timing_bytes) sets-bytes, timing_ends, joined-take (bytes_of 2) 2 (bytes-length 2) t.sets t.cores (omega arith), records_are)
 
   pub body_stores : (out : List ℕ)
-      → sets (sets (sets (sets out 0 (counts t)) 4 (joined (map (bytes_of 2) (take 15 t.timing)))) (sets_at t.fourth) (joined (map (bytes_of 2) (take t.cores t.sets))))
+      → sets (sets (sets (sets out 0 (counts t)) 4 (joined (map (bytes_of 2) t.timing))) (sets_at t.fourth) (joined (map (bytes_of 2) (take t.cores t.sets))))
       (records_at t.fourth t.cores)
       (joined (map (record_bytes t.fourth) (tasks_of t)))
       ≡ sets out 0 (body t)
@@ -42,7 +42,7 @@ module _ (t : Table) (figures : length t.timing ≡ 15) (places : length t.sets 
   body_stores out =
       let timing = sets-after (counts t) timing_bytes out 0 4 (omega arith) in
       let sets = sets-after (counts t ++ timing_bytes) sets-bytes out 0 (sets_at t.fourth) (omega (arith, timing_ends)) in
-      rw (take_all 15 t.timing (omega arith), timing, sets)
+      rw (timing, sets)
       (sets-after (counts t ++ timing_bytes ++ sets-bytes) (joined (map (record_bytes t.fourth) (tasks_of t))) out 0 (records_at t.fourth t.cores) (omega (arith, sets_end)))
 
   pub body-length : t.tasks ≤ length t.task → file_length t.fourth t.cores t.tasks ≡ length (body t) + 12

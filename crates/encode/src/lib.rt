@@ -1,7 +1,7 @@
 // A table as the bytes of its file before their trailer, into a lent buffer that has room for them. Where the parts stand is `places`'.
 #![tactic(auto)]
 
-ghost use Rattle.std.specs.Prelude.{◌≡◌, ◌+◌, ◌*◌, ◌≤◌, map, length, take};
+ghost use Rattle.std.specs.Prelude.{◌≡◌, ◌+◌, ◌*◌, ◌≤◌, map, length};
 ghost use Rattle.std.proofs.lemmas.List.Edits.{sets};
 ghost use Rattle.laws.specs.Idioms.{joined, bytes_of};
 ghost use Rattle.rules.specs.File.{record_at, body};
@@ -9,17 +9,14 @@ ghost use Rattle.encode.specs.Counts.{counts};
 
 use rules::Table;
 
-// The first n figures, two bytes each.
-fn put_figures(out: &mut [u8], at: usize, figures: &[u16], n: usize)
-    requires n_in_bounds { n ≤ length figures.now }
-    requires n_bound { n ≤ 255 }
-    requires n_in_bounds_2 { at + 2 * n ≤ length out.old }
-    ensures { out.new ≡ sets out.old at (joined (map (bytes_of 2) (take n figures.now))) }
+// The figures, two bytes each.
+fn put_figures(out: &mut [u8], at: usize, figures: &[u16])
+    requires few { length figures.now ≤ 255 }
+    requires in_bounds { at + 2 * length figures.now ≤ length out.old }
+    ensures { out.new ≡ sets out.old at (joined (map (bytes_of 2) figures.now)) }
 {
-    let mut i: usize = 0;
-    while i < n {
-        lent_bytes::put(out, at + 2 * i, figures[i] as u64, 2);
-        i += 1;
+    for (i, figure) in figures.iter().enumerate() {
+        lent_bytes::put(out, at + 2 * i, u64::from(*figure), 2);
     }
 }
 
@@ -42,14 +39,11 @@ pub fn put_body(out: &mut [u8], t: Table)
     ensures { out.new ≡ sets out.old 0 (body t) }
 {
     put_counts(out, t);
-    let timing = t.timing;
-    put_figures(out, 4, &timing[..], 15);
-    let figures = t.sets;
+    put_figures(out, 4, &t.timing);
     put_figures(
         out,
         places::sets_at(t.fourth),
-        &figures[..],
-        places::size(t.cores),
+        &t.sets[..places::size(t.cores)],
     );
     records::put_tasks(out, t);
 }

@@ -20,7 +20,7 @@ use Rattle.facts.proofs.ToJudge.{judged-table}
 use Rattle.places.proofs.Places.{sets-limit, after-sets}
 use Rattle.plain.specs.Codes.{code_of, salvage_code}
 use Rattle.stored.specs.Stored.{check_outputs}
-use Rattle.recarry.specs.declared.CarryRefusal.{CarryRefusal}
+use Rattle.rules.specs.declared.CarryRefusal.{CarryRefusal}
 use Rattle.recarry.specs.Files.{table_number, check_files, faulty_file, check_carry, carry_refusal, carry_code, files_worsen}
 use Rattle.shown.specs.Shown.{task_count, record_place}
 use Rattle.shown.proofs.Shown.{tasks-there, record_there}

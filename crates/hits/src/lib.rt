@@ -1,24 +1,17 @@
 // What a request to its own bank costs, and how many row hits may pass it (RULES 3.4, 3.6), in cycles.
 #![tactic(auto)]
 
-ghost use Rattle.std.specs.Prelude.{◌≡◌, ◌/◌, ◌≤◌, min};
+ghost use Rattle.std.specs.Prelude.{◌≡◌, ◌/◌, ◌≤◌};
 ghost use Rattle.rules.specs.Delays.{hit, reopen, conf, window};
 
-use basics::most;
 use cycles::{BL, CL, NCAP, NCOLS, TRCD, TRP, TWR, TWTR, WL, figure};
 use rules::Cycles;
-
-fn least(a: u64, b: u64) -> u64
-    ensures { result ≡ min a b }
-{
-    if a < b { a } else { b }
-}
 
 // The rules' quotient, which is 0 where the divisor is.
 fn quotient(a: u64, b: u64) -> u64
     ensures { result ≡ a / b }
 {
-    if b == 0 { 0 } else { a / b }
+    a.checked_div(b).unwrap_or(0)
 }
 
 // RULES 3.4: as long as a read or a write takes, whichever is longer.
@@ -27,8 +20,8 @@ pub fn hit(row: [u16; 15]) -> Cycles
 {
     let half = figure(row, BL) / 2;
     let read = figure(row, CL) + half + 2;
-    let write = figure(row, WL) + half + most(figure(row, TWTR), figure(row, TWR));
-    Cycles(most(read, write))
+    let write = figure(row, WL) + half + figure(row, TWTR).max(figure(row, TWR));
+    Cycles(read.max(write))
 }
 
 // tRP + tRCD: closing a row and opening another (RULES 4.3).
@@ -54,6 +47,6 @@ pub fn window(row: [u16; 15]) -> u64
     if cap == 65535 {
         bursts
     } else {
-        least(bursts, cap)
+        bursts.min(cap)
     }
 }

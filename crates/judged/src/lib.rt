@@ -2,6 +2,7 @@
 #![tactic(auto)]
 
 ghost use Rattle.std.specs.Prelude.{◌≡◌};
+ghost use Rattle.rules.specs.Chain.{granted};
 ghost use Rattle.judged.specs.JudgedFile.{check_judged_file, JudgedFile};
 
 use rules::Refusal;
@@ -13,14 +14,11 @@ pub fn judge_file(
     bounds: &mut [u64],
     rounds: &mut [u64],
     by: &mut [u8],
-) -> Refusal
-    ensures value { result ≡ check_judged_file file.now starts.now bounds.old rounds.old by.old }
+) -> Result<(), Refusal>
+    ensures value { result ≡ granted (check_judged_file file.now starts.now bounds.old rounds.old by.old) tt }
     ensures judged_file { JudgedFile file.now starts.now bounds.old rounds.old by.old bounds.new rounds.new by.new }
 {
-    let refusal = admit_file::check(file);
-    if refusal.number != 0 {
-        return refusal;
-    }
+    admit_file::check(file)?;
     let judged = verdicts::judge_accepted(file, plain::all_starts(starts));
-    outcome::store(judged, places::size(file[2]), bounds, rounds, by)
+    outcome::store(judged, usize::from(file[2]), bounds, rounds, by)
 }

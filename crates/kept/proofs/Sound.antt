@@ -1,6 +1,6 @@
 -- Whether a record is sound, as code looks: at where it ends, and then at its task. Assumes nothing.
-use mathlib.Core.Path.{◌≡◌, refl}
-use mathlib.Core.Bool.{true, false, not}
+use mathlib.Core.Path.{◌≡◌}
+use mathlib.Core.Bool.{false, not}
 use mathlib.Core.List.{List}
 use Prim.Native.Nat.{ℕ, ◌+◌, ◌≤◌, ◌<◌}
 use lib.ListN.{length}

@@ -11,8 +11,7 @@ use rules::Task;
 fn task_fault(cores: u8, x: Task) -> bool
     ensures { result ≡ task_fault cores x }
 {
-    let seen = tasks::noted(tasks::no_faults(), 1, cores, x);
-    tasks::told(seen).is_err()
+    tasks::check_each(cores, 1, |_| x).is_err()
 }
 
 // Is the record in place i whole, and its task without a fault?

@@ -6,7 +6,7 @@ use native.Mathlib.Omega.{arith}
 use native.Mathlib.Nat.{add-zero, add_assoc, suc-mul, mul-add}
 use native.Mathlib.Numerals.{add-one}
 use lib.ListN.{length, take, drop, get_or}
-use lib.Seq.{take-suc, take-add}
+use lib.Seq.{take-suc, take-add, take-length}
 use Rattle.rules.specs.File.{sum_of, running_from, running_sum}
 use Rattle.lanes.specs.Sums.{sums_of, joined_sums}
 use Rattle.laws.proofs.Sums.{sum-append}
@@ -47,19 +47,23 @@ module _ (s : List ℕ) (byte : (i : ℕ) → get_or s i 0 < 256) where
   running-limit (suc n) h k =
       omega (arith, running-next s n (suc n) (omega arith) (omega arith), running-limit n (omega arith) (omega arith), sum-limit (suc n) h)
 
--- the sums of the bytes before e by those before an earlier place and those of the part between
-module _ (s : List ℕ) (at e : ℕ) (up : at ≤ e) (room : e ≤ length s) where
-  pub part-joined : joined_sums (sums_of (take at s)) (sums_of (take (e - at) (drop at s))) (e - at) ≡ sums_of (take e s)
-  part-joined =
-      let there : at + (e - at) ≡ e = omega arith in
-      let l = take at s in
-      let m = take (e - at) (drop at s) in
-      let between : l ++ m ≡ take e s = rw there at (sym (take-add at (e - at) s)) in
-      let both : joined_sums (sums_of l) (sums_of m) (length m) ≡ sums_of (l ++ m) = rw (sum-append (λ b. b) l m, running-joined l m) in
-      rw (part_length s at (e - at) (omega arith), between) at both
+-- the sums of bytes by those of the first of them and those of the others; and their room
+module _ (l m : List ℕ) where
+  pub sums-append : joined_sums (sums_of l) (sums_of m) (length m) ≡ sums_of (l ++ m)
+  sums-append = rw (sum-append (λ b. b) l m, running-joined l m)
 
-  pub part-fits : ((i : ℕ) → get_or s i 0 < 256) → e ≤ 65536
-      → (sum_of (take at s) + sum_of (take (e - at) (drop at s)) < 18446744073709551616)
-      × (running_sum (take at s) + (e - at) * sum_of (take at s) + running_sum (take (e - at) (drop at s)) < 18446744073709551616)
-  part-fits byte h =
-      (omega (arith, ap (λ t. t.sum) part-joined, sum-limit s byte e room), omega (arith, ap (λ t. t.running) part-joined, running-limit s byte e room h))
+  pub append-fits : ((i : ℕ) → get_or (l ++ m) i 0 < 256) → length (l ++ m) ≤ 65536
+      → (sum_of l + sum_of m < 18446744073709551616) × (running_sum l + length m * sum_of l + running_sum m < 18446744073709551616)
+  append-fits byte h =
+      let s = l ++ m in
+      let n = length s in
+      let low : sum_of s ≤ 255 * n = rw take-length at (sum-limit s byte n (omega arith)) in
+      let high : running_sum s ≤ 16777216 * n = rw take-length at (running-limit s byte n (omega arith) h) in
+      (omega (arith, ap (λ t. t.sum) sums-append), omega (arith, ap (λ t. t.running) sums-append))
+
+-- the sums of the bytes before e by those before an earlier place and those of the part between
+pub part-joined : (s : List ℕ) (at e : ℕ) → at ≤ e → e ≤ length s → joined_sums (sums_of (take at s)) (sums_of (take (e - at) (drop at s))) (e - at) ≡ sums_of (take e s)
+part-joined s at e up room =
+    let there : at + (e - at) ≡ e = omega arith in
+    let between : take at s ++ take (e - at) (drop at s) ≡ take e s = rw there at (sym (take-add at (e - at) s)) in
+    rw (part_length s at (e - at) (omega arith), between) at (sums-append (take at s) (take (e - at) (drop at s)))

@@ -3,7 +3,7 @@
 
 ghost use Rattle.std.specs.Prelude.{◌≡◌, ◌+◌, ◌*◌, ◌%◌, ◌≤◌, length};
 ghost use Rattle.lanes.specs.Sums.{sums_of};
-ghost use Rattle.lanes.specs.Lanes.{evens_of, added_of, weighed_of, early, sums_in};
+ghost use Rattle.lanes.specs.Lanes.{split_of, evens_of, added_of, weighed_of, early, sums_in};
 
 // RULES 7.3: of some bytes the sum, and the sum of the running sums.
 #[derive(Clone, Copy)]
@@ -12,35 +12,39 @@ pub struct Totals {
     pub running: u64,
 }
 
-// The bytes in the even places of a word, in a lane of 16 bits each. The compiler makes one mask of it.
-fn evens(w: u64) -> u64
-    ensures { result ≡ evens_of w }
+// A word's four lanes of 16 bits.
+fn split(w: u64) -> [u64; 4]
+    ensures { result ≡ split_of w }
 {
     let x = w / 65536;
     let y = x / 65536;
     let z = y / 65536;
-    w % 256 + 65536 * (x % 256 + 65536 * (y % 256 + 65536 * (z % 256)))
+    [w % 65536, x % 65536, y % 65536, z % 65536]
 }
 
-// The four lanes of a word added up; and each as often as there are lanes before it.
+// The bytes in the even places of a word, a lane each. The compiler makes one mask of it.
+fn evens(w: u64) -> u64
+    ensures { result ≡ evens_of w }
+{
+    let [a, b, c, d] = split(w);
+    a % 256 + 65536 * (b % 256 + 65536 * (c % 256 + 65536 * (d % 256)))
+}
+
+// The lanes of a word added up; and each as often as there are lanes before it.
 fn added(w: u64) -> u64
     ensures value { result ≡ added_of w }
     ensures upper_bound { result ≤ 262140 }
 {
-    let x = w / 65536;
-    let y = x / 65536;
-    let z = y / 65536;
-    w % 65536 + x % 65536 + y % 65536 + z % 65536
+    let [a, b, c, d] = split(w);
+    a + b + c + d
 }
 
 fn weighed(w: u64) -> u64
     ensures value { result ≡ weighed_of w }
     ensures upper_bound { result ≤ 393210 }
 {
-    let x = w / 65536;
-    let y = x / 65536;
-    let z = y / 65536;
-    x % 65536 + 2 * (y % 65536) + 3 * (z % 65536)
+    let [_, b, c, d] = split(w);
+    b + 2 * c + 3 * d
 }
 
 // The two sums, taken out of the lanes.
@@ -66,15 +70,12 @@ pub fn word_sums(s: &[u8]) -> Totals
     let mut o: u64 = 0;
     let mut re: u64 = 0;
     let mut ro: u64 = 0;
-    let n = s.len() / 8;
-    let mut k: usize = 0;
-    while k < n {
-        let w = lent_bytes::le64(s, 8 * k);
+    for word in s.as_chunks::<8>().0 {
+        let w = u64::from_le_bytes(*word);
         e += evens(w);
         o += evens(w / 256);
         re += e;
         ro += o;
-        k += 1;
     }
     out_of_lanes(e, o, re, ro)
 }

@@ -27,21 +27,21 @@ pub fn le16(s: &[u8], at: usize) -> u16
     requires { at + 2 ≤ length s.now }
     ensures { result ≡ number_in (part s.now at 2) }
 {
-    (s[at] as u16) + 256 * (s[at + 1] as u16)
+    u16::from_le_bytes(*s[at..].first_chunk().unwrap())
 }
 
 pub fn le32(s: &[u8], at: usize) -> u32
     requires { at + 4 ≤ length s.now }
     ensures { result ≡ number_in (part s.now at 4) }
 {
-    (le16(s, at) as u32) + 65536 * (le16(s, at + 2) as u32)
+    u32::from_le_bytes(*s[at..].first_chunk().unwrap())
 }
 
 pub fn le64(s: &[u8], at: usize) -> u64
     requires { at + 8 ≤ length s.now }
     ensures { result ≡ number_in (part s.now at 8) }
 {
-    (le32(s, at) as u64) + 4294967296 * (le32(s, at + 4) as u64)
+    u64::from_le_bytes(*s[at..].first_chunk().unwrap())
 }
 
 // The n lowest bytes of v, from a place on.
@@ -49,11 +49,9 @@ pub fn put(out: &mut [u8], at: usize, v: u64, n: usize)
     requires { at + n ≤ length out.old }
     ensures { out.new ≡ sets out.old at (bytes_of n v) }
 {
-    let mut w = v;
-    let mut i: usize = 0;
-    while i < n {
-        out[at + i] = (w % 256) as u8;
-        w = w / 256;
-        i += 1;
+    let mut rest = v;
+    for byte in &mut out[at..at + n] {
+        *byte = (rest % 256) as u8;
+        rest /= 256;
     }
 }

@@ -17,7 +17,7 @@ pub fn counts_fault(cores: u8, partitions: u8, tasks: u8, fourth: u8) -> bool
     outside(1, 8, cores as u64)
         || outside(1, 16, partitions as u64)
         || outside(1, 32, tasks as u64)
-        || 3 < fourth
+        || 4 <= fourth
 }
 
 fn set_fault(partitions: u8, set: u16) -> bool

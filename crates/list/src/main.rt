@@ -1,40 +1,29 @@
 // list [FILE]: the listing of a table file, or of standard input, on standard output.
 #![tactic(auto)]
 
-use console::Got;
+use console::{Failed, Source};
 
-// The listing, and whether it was written.
-fn write(rt: HostRuntime, file: &[u8]) -> bool {
+fn show(rt: HostRuntime, from: Source, file: &[u8]) -> Result<u8, Failed> {
     let mut out = [0u8; 3266];
     let n = listing::list(file, &mut out);
-    console::say(rt, b"list: ", lent_bytes::front(&out, n))
-}
-
-fn show(rt: HostRuntime, word: usize, file: &[u8]) -> u8 {
-    if !write(rt, file) {
-        return 3;
+    console::say(rt, b"list: ", lent_bytes::front(&out, n))?;
+    if let Err(refusal) = admit_file::check(file) {
+        console::explain(rt, b"list: ", from, refusal);
     }
-    let refusal = admit_file::check(file);
-    console::explain(rt, b"list: ", word, refusal.number, refusal.place);
-    status::of_file(file)
+    Ok(status::of_file(file))
 }
 
-// The file that a word names; word 0 is standard input.
-fn list(rt: HostRuntime, word: usize) -> u8 {
+fn list(rt: HostRuntime, from: Source) -> Result<u8, Failed> {
     let mut file = [0u8; 7952];
-    match console::load(rt, b"list: ", word, &mut file) {
-        Got::Failed => 3,
-        Got::Bytes(n) => show(rt, word, input::front(&file, n)),
-    }
+    let n = console::load(rt, b"list: ", from, &mut file)?;
+    show(rt, from, input::front(&file, n))
 }
 
 fn main(rt: HostRuntime) {
-    let words = console::words(rt);
-    let status = if words < 2 {
-        // one word is word 1; with none it is standard input
-        list(rt, words)
-    } else {
-        console::usage(rt, b"usage: list [FILE]\n")
+    let ended = match console::words(rt) {
+        Some(0) => list(rt, Source::Input),
+        Some(1) => list(rt, Source::Named(1)),
+        _ => Err(console::usage(rt, b"usage: list [FILE]\n")),
     };
-    console::tell(rt, status);
+    console::tell(rt, ended);
 }

@@ -1,19 +1,22 @@
 -- What is listed for a file, by what read_to_judge it gave: a refusal's line, or the lines of the table. Assumes nothing.
-use mathlib.Core.Path.{◌≡◌}
+use mathlib.Core.Path.{◌≡◌, sym}
 use mathlib.Core.List.{List}
 use Prim.Native.Nat.{ℕ}
 use lib.ListN.{replicate}
-use borrow.Author.Tests.{eq-eqb, ne_eqb}
-use Rattle.rules.specs.Results.{Read}
+use Rattle.std.specs.Prelude.{Ok, Err}
+use Rattle.rules.specs.declared.Table.{Table}
+use Rattle.rules.specs.declared.Refusal.{Refusal}
+use Rattle.rules.specs.Chain.{granted}
 use Rattle.rules.specs.Operations.{read_to_judge, judge_all}
 use Rattle.rules.specs.Listing.{table_lines, listing, refused_line}
+use Rattle.facts.proofs.Chain.{was-allowed, was-denied}
 
-module _ (s : List ℕ) (r : Read) (read : r ≡ read_to_judge s) where
-  pub listed-refused : (r.refusal.number ≡ 0 → ⊥) → listing s ≡ refused_line r.refusal.number
+module _ (s : List ℕ) where
+  pub listed-refused : {r : Refusal} → Err r ≡ granted (read_to_judge s).refusal (read_to_judge s).table → listing s ≡ refused_line r.number
   unfolding listing refused_line
-  listed-refused h = rw (← read, ne_eqb _ 0 h)
+  listed-refused e = let w = was-denied _ _ (sym e) in rw (w.0, w.1)
 
-  module _ (h : r.refusal.number ≡ 0) where
-    pub listed-table : listing s ≡ table_lines r.table (judge_all r.table (replicate 32 0)).answers
-    unfolding listing
-    listed-table = rw (← read, eq-eqb r.refusal.number 0 h)
+  pub listed-table : {t : Table} → Ok t ≡ granted (read_to_judge s).refusal (read_to_judge s).table
+      → listing s ≡ table_lines t (judge_all t (replicate 32 0)).answers
+  unfolding listing
+  listed-table e = let w = was-allowed _ _ (sym e) in rw (w.0, w.1)

@@ -44,21 +44,19 @@ pub fn lines(t: Table, answers: [Answer; 32], out: &mut [u8]) -> usize
     ensures given { Given (table_text t answers) out.old result out.new }
     ensures answers_len_bound { length (table_text t answers) ≤ 3266 }
 {
-    let refusal = admit::table(t);
-    if refusal.number != 0 {
-        return refused(refusal.number, out);
+    match admit::table(t) {
+        Ok(()) => accepted_lines(t, answers, out),
+        Err(refusal) => refused(refusal.number, out),
     }
-    accepted_lines(t, answers, out)
 }
 
-// A table that was read to judge it, judged from nothing. It is not checked again.
+// A table that was read to judge it, judged from nothing: no such start is refused. It is not checked again.
 fn list_table(t: Table, out: &mut [u8]) -> usize
     requires { is_accepted (check_judged t) ≡ true }
     ensures given { Given (table_lines t (judge_all t (replicate 32 0)).answers) out.old result out.new }
     ensures replicate_len_bound { length (table_lines t (judge_all t (replicate 32 0)).answers) ≤ 3266 }
 {
-    let judged = columns::judge_tasks(t, [0u64; 32]);
-    let answers = judged.answers;
+    let answers = columns::judge_tasks(t, [0u64; 32]).unwrap();
     accepted_lines(t, answers, out)
 }
 
@@ -67,10 +65,8 @@ pub fn list(file: &[u8], out: &mut [u8]) -> usize
     ensures given { Given (listing file.now) out.old result out.new }
     ensures file_len_bound { length (listing file.now) ≤ 3266 }
 {
-    let read = admit_file::read(file);
-    if read.refusal.number != 0 {
-        return refused(read.refusal.number, out);
+    match admit_file::read(file) {
+        Ok(table) => list_table(table, out),
+        Err(refusal) => refused(refusal.number, out),
     }
-    let table = read.table;
-    list_table(table, out)
 }

@@ -12,37 +12,28 @@ use text::{put_phrase, put_word};
 pub fn is_miss(verdict: Verdict) -> bool
     ensures { result ≡ is_miss verdict }
 {
-    match verdict {
-        Verdict::Misses => true,
-        Verdict::Holds(_, _) => false,
-    }
+    matches!(verdict, Verdict::Misses)
 }
 
-// The number of the first task that misses, 0 where none does.
-pub fn first_miss(n: usize, answers: [Answer; 32]) -> u64
+// The number of the first task that misses.
+pub fn first_miss(n: usize, answers: [Answer; 32]) -> Option<u64>
     requires { n ≤ 32 }
     ensures { last_for result ≡ last answers n }
 {
-    let mut i: usize = 0;
-    while i < n {
-        let answer = answers[i];
-        i += 1;
-        let verdict = answer.verdict;
-        if is_miss(verdict) {
-            return i as u64;
-        }
-    }
-    0
+    let place = answers[..n]
+        .iter()
+        .position(|answer| is_miss(answer.verdict))?;
+    Some(place as u64 + 1)
 }
 
 // That all hold, or the first task that misses.
-pub fn put_last(buf: &mut [u8], at: usize, first: u64) -> usize
+pub fn put_last(buf: &mut [u8], at: usize, first: Option<u64>) -> usize
     requires { at + 32 ≤ length buf.old }
     ensures put { Put buf.old at (last_for first) result buf.new }
     ensures upper_bound { result ≤ at + 32 }
 {
-    if first == 0 {
-        return put_word(buf, at, b"all hold\n");
+    match first {
+        None => put_word(buf, at, b"all hold\n"),
+        Some(number) => put_phrase(buf, at, b"first miss ", number, b'\n'),
     }
-    put_phrase(buf, at, b"first miss ", first, b'\n')
 }

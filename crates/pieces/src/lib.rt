@@ -9,19 +9,15 @@ pub fn piece(s: &[u8], mark: u8, k: u8) -> &[u8]
     ensures { result.now ≡ piece_of mark s.now k }
 {
     let mut left = k;
-    let mut start: usize = 0;
-    let mut i: usize = 0;
-    while i < s.len() {
-        if s[i] != mark {
-            i += 1;
-            continue;
+    let mut start = 0;
+    for (i, byte) in s.iter().enumerate() {
+        if *byte == mark {
+            if left == 0 {
+                return &s[start..i];
+            }
+            left -= 1;
+            start = i + 1;
         }
-        if left == 0 {
-            return &s[start..i];
-        }
-        left -= 1;
-        i += 1;
-        start = i;
     }
     &s[start..]
 }

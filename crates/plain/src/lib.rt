@@ -3,19 +3,22 @@
 
 ghost use Rattle.std.specs.Prelude.{◌≡◌, take};
 ghost use Rattle.laws.specs.Idioms.{filled};
+ghost use Rattle.rules.specs.Chain.{refusal_of};
 ghost use Rattle.rules.specs.Judgement.{bound_of};
 ghost use Rattle.plain.specs.Codes.{code_of};
 
 use rules::{Refusal, Verdict};
 
 // Number and place in one; 0 where nothing is refused.
-pub fn code(refusal: Refusal) -> u16
-    ensures { result ≡ code_of refusal }
+pub fn code(answered: Result<(), Refusal>) -> u16
+    ensures { result ≡ code_of (refusal_of answered) }
 {
-    if refusal.number == 0 {
-        return 0;
+    match answered {
+        Err(refusal) if refusal.number != 0 => {
+            (refusal.number as u16) + 256 * (refusal.place as u16)
+        }
+        _ => 0,
     }
-    (refusal.number as u16) + 256 * (refusal.place as u16)
 }
 
 // Its bound, or 0 where it misses.
@@ -32,11 +35,9 @@ pub fn bound_of(verdict: Verdict) -> u64
 pub fn all_starts(starts: &[u64]) -> [u64; 32]
     ensures { result ≡ filled 32 0 (take 32 starts.now) }
 {
-    let mut all = [0u64; 32];
-    let mut i: usize = 0;
-    while i < 32 && i < starts.len() {
+    let mut all = [0; 32];
+    for i in 0..starts.len().min(32) {
         all[i] = starts[i];
-        i += 1;
     }
     all
 }

@@ -1,32 +1,26 @@
--- A table of limits that is the rule's list: what it says of a figure is what the rule says. Assumes nothing.
-use Prim.Native.Nat.{ℕ, ◌+◌, ◌-◌}
-use mathlib.Core.Path.{◌≡◌, refl}
+-- The limits of a figure, from the rule's list as code reads it. Assumes nothing.
+use Prim.Native.Nat.{ℕ, ◌-◌}
+use mathlib.Core.Path.{◌≡◌, refl, ◌∙◌}
 use mathlib.Core.Bool.{Bool, true, false, ◌&&◌}
 use mathlib.Core.List.{List}
-use native.Mathlib.Omega.{arith}
 use lib.Dec.{eqb}
-use lib.ListN.{get_or, get_or-map}
+use lib.ListN.{get_or}
 use borrow.Author.Tests.{eqb-true}
 use Rattle.rules.specs.Timing.{Row, BL, ranges}
 use Rattle.rules.specs.Refusals.{figure_fault}
-use Rattle.ranges.specs.declared.Limits.{Limits}
-use Rattle.ranges.specs.Ranges.{not_burst, out_of_range, pair, AreRanges}
+use Rattle.ranges.specs.Ranges.{not_burst, out_of_range}
 
-abbrev pub none : Limits
-none = record { 0 = 0; 1 = 0 }
-
-module _ {table : List Limits} (r : AreRanges table) (w : Row) (i : ℕ) where
-  range_at : get_or ranges i (0, 0) ≡ pair (get_or table i none)
-  range_at = rw (← r.same) (get_or-map pair table i none)
-
-  burst_at : eqb (i + 1) 6 && not_burst (BL w) ≡ eqb (i + 1) 6 && not_burst (get_or w i 0)
-  burst_at = go (eqb (i + 1) 6) refl
+module _ (w : Row) (k : ℕ) where
+  -- figure 6 is BL
+  burst_at : eqb k 6 && not_burst (BL w) ≡ eqb k 6 && not_burst (get_or w (k - 1) 0)
+  burst_at = go (eqb k 6) refl
     where
-      go : (b : Bool) → eqb (i + 1) 6 ≡ b → b && not_burst (BL w) ≡ b && not_burst (get_or w i 0)
-      go true e = let five : i ≡ 5 = omega (arith, eqb-true (i + 1) 6 e) in rw five
+      go : (b : Bool) → eqb k 6 ≡ b → b && not_burst (BL w) ≡ b && not_burst (get_or w (k - 1) 0)
+      go true e = let six : k ≡ 6 = eqb-true k 6 e in rw six
       go false e = refl
 
-  -- the table's rule, carried to the entry at i
-  pub fault_at : figure_fault w (i + 1) ≡ out_of_range (get_or table i none).0 (get_or table i none).1 (i + 1) (get_or w i 0)
+  -- the test of figure k, by the entries in place k - 1
+  pub fault_at : {table : List (ℕ × ℕ)} → table ≡ ranges → {b : Bool}
+      → b ≡ out_of_range (get_or table (k - 1) (0, 0)).0 (get_or table (k - 1) (0, 0)).1 k (get_or w (k - 1) 0) → b ≡ figure_fault w k
   unfolding figure_fault
-  fault_at = let e : i + 1 - 1 ≡ i = omega arith in rw (e, range_at, burst_at)
+  fault_at same e = e ∙ rw (same, burst_at) refl

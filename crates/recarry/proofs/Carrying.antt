@@ -4,27 +4,28 @@ use mathlib.Core.Bool.{true, false}
 use mathlib.Core.List.{List, [], ◌∷◌, map}
 use Prim.Native.Nat.{ℕ, zero, suc}
 use lib.ListN.{take}
+use Rattle.std.specs.Prelude.{Result, IsErrAnd, ⊤}
 use Rattle.rules.specs.declared.Refusal.{Refusal}
 use Rattle.rules.specs.declared.Answer.{Answer}
 use Rattle.rules.specs.declared.Verdict.{Verdict}
-use Rattle.rules.specs.Results.{Read}
 use Rattle.rules.specs.declared.Table.{Table}
+use Rattle.rules.specs.declared.CarryRefusal.{CarryRefusal}
 use Rattle.rules.specs.declared.Faulty.TheVariants.{Neither, Older, Newer}
 use Rattle.rules.specs.Judgement.{judge, misses, bound_of}
-use Rattle.rules.specs.Chain.{is_accepted}
+use Rattle.rules.specs.Chain.{is_accepted, granted, refusal_of}
 use Rattle.rules.specs.Order.{worsens}
 use Rattle.rules.specs.File.{tasks_in, decode}
-use Rattle.rules.specs.Operations.{check_to_judge, read_to_judge, answers_from, fresh, verdicts, check_both, rejudging}
+use Rattle.rules.specs.Operations.{check_to_judge, answers_from, fresh, verdicts, check_both, rejudging}
 use Rattle.facts.proofs.ToJudge.{judged-table}
-use Rattle.admit_file.proofs.WasToJudge.{refusal_of, not_accepted}
 use Rattle.facts.proofs.Again.{rejudged_verdicts}
 use Rattle.laws.proofs.Filled.{take-filled}
 use Rattle.plain.specs.Codes.{by_number}
 use Rattle.stored.specs.Stored.{check_outputs, Stored}
-use Rattle.stored.proofs.Laid.{unchanged}
+use Rattle.stored.proofs.Laid.{unchanged, stored-by}
+use Rattle.rejudge.specs.Carried.{about}
+use Rattle.rejudge.proofs.Whose.{returned-on, about_granted}
 use Rattle.judged.specs.JudgedFile.{answers_of}
-use Rattle.recarry.specs.declared.CarryRefusal.{CarryRefusal}
-use Rattle.recarry.specs.Files.{check_files, faulty_file, check_carry, carry_refusal, carried_answers, CarriedFiles, files_worsen}
+use Rattle.recarry.specs.Files.{granted_carry, check_files, faulty_file, check_carry, carry_refusal, carried_answers, CarriedFiles, files_worsen}
 
 -- ---- the verdicts of a judgement after an older file are those of a fresh one
 
@@ -60,36 +61,34 @@ module _ (older newer : List ℕ) (was : is_accepted (check_to_judge older) ≡ 
 -- ---- what is answered, and the outputs afterwards
 
 module _ (older newer bounds rounds by : List ℕ) where
-  -- what the contract says of a refusal that changes nothing
-  abbrev Answered : CarryRefusal → List ℕ → List ℕ → List ℕ → Type 0
-  Answered r bounds' rounds' by' = (r ≡ carry_refusal older newer bounds rounds by) × CarriedFiles older newer bounds rounds by bounds' rounds' by'
+  -- what the contract says
+  abbrev Answered : Result ⊤ CarryRefusal → List ℕ → List ℕ → List ℕ → Type 0
+  Answered x bounds' rounds' by' =
+      (x ≡ granted_carry (carry_refusal older newer bounds rounds by) (tt {0})) × CarriedFiles older newer bounds rounds by bounds' rounds' by'
 
-  refused-files : (r : CarryRefusal) → r ≡ carry_refusal older newer bounds rounds by → is_accepted r.refusal ≡ false → Answered r bounds rounds by
-  unfolding carry_refusal
-  refused-files r e refused =
+  -- a refusal changes nothing
+  refused-files : {x : Result ⊤ CarryRefusal} (d : CarryRefusal) → IsErrAnd x (λ e. e ≡ d) → d ≡ carry_refusal older newer bounds rounds by
+      → is_accepted d.refusal ≡ false → Answered x bounds rounds by
+  unfolding carry_refusal granted_carry
+  refused-files {x} d given e refused =
       let h = rw e at refused in
-      (e, record { stored = unchanged h; bounds_fresh = rw h; by_fresh = rw h })
+      (returned-on x given ∙ rw (e, h), record { stored = unchanged h; bounds_fresh = rw h; by_fresh = rw h })
 
-  pub older_refused : {x : Read} → x ≡ read_to_judge older → (x.refusal.number ≡ 0 → ⊥)
-      → Answered (record { refusal = x.refusal; faulty = Older }) bounds rounds by
+  pub older_refused : is_accepted (check_to_judge older) ≡ false → {d : CarryRefusal} → d ≡ record { refusal = check_to_judge older; faulty = Older }
+      → {x : Result ⊤ CarryRefusal} → IsErrAnd x (λ e. e ≡ d) → Answered x bounds rounds by
   unfolding carry_refusal check_carry check_files faulty_file
-  older_refused read refused =
-      let e = not_accepted older read refused in
-      refused-files _ (rw (refusal_of older read) (simp e)) (rw (refusal_of older read) e)
+  older_refused e is given = refused-files _ given (rw is (simp e)) (rw is e)
 
   module _ (was : is_accepted (check_to_judge older) ≡ true) where
-    pub newer_refused : {y : Read} → y ≡ read_to_judge newer → (y.refusal.number ≡ 0 → ⊥)
-        → Answered (record { refusal = y.refusal; faulty = Newer }) bounds rounds by
+    pub newer_refused : is_accepted (check_to_judge newer) ≡ false → {d : CarryRefusal} → d ≡ record { refusal = check_to_judge newer; faulty = Newer }
+        → {x : Result ⊤ CarryRefusal} → IsErrAnd x (λ e. e ≡ d) → Answered x bounds rounds by
     unfolding carry_refusal check_carry check_files faulty_file
-    newer_refused read refused =
-        let e = not_accepted newer read refused in
-        refused-files _ (rw (refusal_of newer read) (simp (was, e))) (rw (refusal_of newer read) e)
+    newer_refused e is given = refused-files _ given (rw is (simp (was, e))) (rw is e)
 
     module _ (is : is_accepted (check_to_judge newer) ≡ true) where
-      decided : {z : Refusal} → z ≡ check_outputs (tasks_in newer) bounds rounds by
-          → ◌≡◌ {A = CarryRefusal} (record { refusal = z; faulty = Neither }) (carry_refusal older newer bounds rounds by)
+      decided : ◌≡◌ {A = CarryRefusal} (record { refusal = check_outputs (tasks_in newer) bounds rounds by; faulty = Neither }) (carry_refusal older newer bounds rounds by)
       unfolding carry_refusal check_carry check_files faulty_file
-      decided e = rw e (simp (was, is))
+      decided = simp (was, is)
 
       carried : {bounds' rounds' by' : List ℕ}
           → Stored (check_carry older newer bounds rounds by) (carried_answers older newer) bounds rounds by bounds' rounds' by'
@@ -102,14 +101,16 @@ module _ (older newer bounds rounds by : List ℕ) where
             by_fresh = rw (← column by_number (carried_answers older newer) (answers_of newer []) same) stored.by_are;
           }
 
-      pub files-judged : {a b : Table} {z : Refusal} {bounds' rounds' by' : List ℕ} → a ≡ decode older → b ≡ decode newer
-          → z ≡ check_outputs b.tasks bounds rounds by
-          → Stored z (take b.tasks (rejudging a b).answers) bounds rounds by bounds' rounds' by'
-          → Answered (record { refusal = z; faulty = Neither }) bounds' rounds' by'
-      unfolding decode carry_refusal carried_answers
+      pub files-judged : {a b : Table} {z : Result ⊤ Refusal} {bounds' rounds' by' : List ℕ} → decode older ≡ a → decode newer ≡ b
+          → z ≡ granted (check_outputs b.tasks bounds rounds by) (tt {0})
+          → Stored (refusal_of z) (take b.tasks (rejudging a b).answers) bounds rounds by bounds' rounds' by'
+          → Answered (about Neither z) bounds' rounds' by'
+      unfolding decode carry_refusal carried_answers granted_carry check_outputs
       files-judged e f checked stored =
-          let so = decided (rw f at checked) in
-          (so, carried (rw (f, e, ap (λ (r : CarryRefusal). r.refusal) so) at stored))
+          let so = stored-by _ _ (rw checked at stored) in (
+            about_granted Neither _ _ (rw (← f) at checked) ∙ ap (λ (r : CarryRefusal). granted_carry r (tt {0})) decided,
+            carried (rw (← f, ← e, ap (λ (r : CarryRefusal). r.refusal) decided) at so),
+          )
 
 -- ---- whether the newer file is the older one worsened
 

@@ -1,17 +1,17 @@
 -- A newer file after an older one: the refusal and whose it is, the outputs afterwards, and whether it starts from the older bounds. Assumes nothing.
-use Rattle.std.specs.Prelude.{◌≡◌, Bool, cond, ◌&&◌, List, [], map, ℕ, ◌+◌, ◌*◌, take}
+use Rattle.std.specs.Prelude.{◌≡◌, Bool, cond, ◌&&◌, List, [], map, ℕ, ◌+◌, ◌*◌, take, Result, Ok, Err}
 use Rattle.rules.specs.declared.Refusal.{Refusal}
 use Rattle.rules.specs.declared.Answer.{Answer}
 use Rattle.rules.specs.declared.Faulty.{Faulty}
+use Rattle.rules.specs.declared.CarryRefusal.{CarryRefusal}
 use Rattle.rules.specs.declared.Faulty.TheVariants.{Neither, Older, Newer}
-use Rattle.rules.specs.Chain.{◌or_else◌, is_accepted}
+use Rattle.rules.specs.Chain.{accepted, ◌or_else◌, is_accepted}
 use Rattle.rules.specs.Order.{worsens}
 use Rattle.rules.specs.File.{tasks_in, decode}
 use Rattle.rules.specs.Operations.{check_to_judge, rejudging}
 use Rattle.plain.specs.Codes.{code_of}
 use Rattle.stored.specs.Stored.{check_outputs, laid_unless, bound_in, by_in, Stored}
 use Rattle.judged.specs.JudgedFile.{answers_of}
-use Rattle.recarry.specs.declared.CarryRefusal.{CarryRefusal}
 
 -- the older file's refusals, then the newer's; which of them is refused
 unfoldable pub check_files : List ℕ → List ℕ → Refusal
@@ -26,6 +26,14 @@ check_carry older newer bounds rounds by = check_files older newer or_else check
 
 unfoldable pub carry_refusal : List ℕ → List ℕ → List ℕ → List ℕ → List ℕ → CarryRefusal
 carry_refusal older newer bounds rounds by = record { refusal = check_carry older newer bounds rounds by; faulty = faulty_file older newer }
+
+-- what code answers: the refusal and whose it is, or where nothing is refused what is asked for; and back, the refusal that an answer has
+unfoldable pub granted_carry : {A : Type 0} → CarryRefusal → A → Result A CarryRefusal
+granted_carry r x = cond (is_accepted r.refusal) (Ok x) (Err r)
+
+unfoldable pub refusal_carried : {A : Type 0} → Result A CarryRefusal → CarryRefusal
+refusal_carried (Ok x) = record { refusal = accepted; faulty = Neither }
+refusal_carried (Err r) = r
 
 -- RYB_OLDER, RYB_NEWER, or neither; and the refusal with it in one, from which RYB_TABLE takes it
 abbrev pub table_number : Faulty → ℕ

@@ -27,16 +27,12 @@ pub fn put_tasks(out: &mut [u8], t: Table)
     requires tasks_in_bounds { record_at t.fourth t.cores (t.tasks + 1) ≤ length out.old }
     ensures { out.new ≡ sets out.old (records_at t.fourth t.cores) (joined (map (record_bytes t.fourth) (tasks_of t))) }
 {
-    let count = places::size(t.tasks);
-    let mut done: usize = 0;
-    while done < count {
-        let task = t.task[done];
+    for i in 0..places::size(t.tasks) {
         put_task(
             out,
-            places::record_at(t.fourth, t.cores, done),
+            places::record_at(t.fourth, t.cores, i),
             t.fourth,
-            task,
+            t.task[i],
         );
-        done += 1;
     }
 }

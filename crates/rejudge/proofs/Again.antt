@@ -1,41 +1,44 @@
 -- The order of refusals of a newer table after an older one, link by link. Assumes nothing.
-use mathlib.Core.Path.{◌≡◌}
-use mathlib.Core.Bool.{Bool, true, false}
+use mathlib.Core.Path.{◌≡◌, refl}
+use mathlib.Core.Bool.{Bool, true, false, cond}
 use mathlib.Core.List.{List}
+use Rattle.std.specs.Prelude.{Result, Ok, Err, IfOk}
 use Rattle.rules.specs.declared.Table.{Table}
-use Rattle.rules.specs.declared.Refusal.{Refusal}
 use Rattle.rules.specs.declared.Answer.{Answer}
-use Rattle.rules.specs.declared.Faulty.{Faulty}
-use Rattle.rules.specs.declared.Faulty.TheVariants.{Neither, Older, Newer}
-use Rattle.rules.specs.Results.{Rejudged}
+use Rattle.rules.specs.declared.Faulty.TheVariants.{Older, Newer}
+use Rattle.rules.specs.declared.Rejudgement.{Rejudgement}
+use Rattle.rules.specs.declared.CarryRefusal.{CarryRefusal}
 use Rattle.rules.specs.Chain.{is_accepted}
 use Rattle.rules.specs.Refusals.{check_judged}
 use Rattle.rules.specs.Order.{worsens}
-use Rattle.rules.specs.Operations.{check_both, faulty_of, is_carried, rejudging}
+use Rattle.rules.specs.Operations.{answers_from, fresh, verdicts, check_both, faulty_of, is_carried, rejudging}
 use Rattle.facts.proofs.Again.{rejudged_verdicts}
-use Rattle.rejudge.specs.Carried.{not_rejudged, Carried}
+use Rattle.rejudge.specs.Carried.{rejudged, Carried}
 
 module _ (older newer : Table) where
-  pub carried_promise : {r : Rejudged} → r ≡ rejudging older newer → Carried older newer r
-  unfolding rejudging
-  carried_promise e = record { is = e; as_fresh = λ passed. rw e (rejudged_verdicts older newer (rw e at passed)) }
+  fresh-verdicts : IfOk (rejudged (rejudging older newer)) (λ x. verdicts x.answers ≡ verdicts (answers_from newer fresh))
+  unfolding rejudged rejudging
+  fresh-verdicts = go (is_accepted (check_both older newer)) refl
+    where
+      go : (b : Bool) → is_accepted (check_both older newer) ≡ b
+          → IfOk {E = CarryRefusal} (cond b (Ok (record { carried = is_carried older newer; answers = (rejudging older newer).answers })) (Err (record { refusal = check_both older newer; faulty = faulty_of older newer })))
+          (λ (x : Rejudgement). verdicts x.answers ≡ verdicts (answers_from newer fresh))
+      go true p = rejudged_verdicts older newer p
+      go false p = tt
 
-  again-refused : (r : Refusal) (which : Faulty) → is_accepted r ≡ false → check_both older newer ≡ r → faulty_of older newer ≡ which
-      → not_rejudged r which ≡ rejudging older newer
-  unfolding rejudging not_rejudged is_carried
-  again-refused r which h e f = simp (e, f, h)
+  pub carried_promise : {r : Result Rejudgement CarryRefusal} → r ≡ rejudged (rejudging older newer) → Carried older newer r
+  carried_promise e = record { is = e; as_fresh = rw e fresh-verdicts }
 
-  pub again_older : is_accepted (check_judged older) ≡ false → not_rejudged (check_judged older) Older ≡ rejudging older newer
-  unfolding check_both faulty_of
-  again_older h = again-refused (check_judged older) Older h (simp h) (simp h)
+  pub again_older : is_accepted (check_judged older) ≡ false → Err (record { refusal = check_judged older; faulty = Older }) ≡ rejudged (rejudging older newer)
+  unfolding rejudged rejudging check_both faulty_of
+  again_older h = simp h
 
   module _ (was : is_accepted (check_judged older) ≡ true) where
-    pub again_newer : is_accepted (check_judged newer) ≡ false → not_rejudged (check_judged newer) Newer ≡ rejudging older newer
-    unfolding check_both faulty_of
-    again_newer h = again-refused (check_judged newer) Newer h (simp was) (simp (was, h))
+    pub again_newer : is_accepted (check_judged newer) ≡ false → Err (record { refusal = check_judged newer; faulty = Newer }) ≡ rejudged (rejudging older newer)
+    unfolding rejudged rejudging check_both faulty_of
+    again_newer h = simp (was, h)
 
-    module _ (is : is_accepted (check_judged newer) ≡ true) where
-      pub again-judged : {r : Refusal} {carried : Bool} {answers : List Answer} → r ≡ check_judged newer → carried ≡ worsens older newer → answers ≡ (rejudging older newer).answers
-          → ◌≡◌ {A = Rejudged} (record { refusal = r; faulty = Neither; carried = carried; answers = answers }) (rejudging older newer)
-      unfolding rejudging faulty_of is_carried check_both
-      again-judged from so e = rw (from, so, e) (simp (was, is))
+    pub again-judged : is_accepted (check_judged newer) ≡ true → {answers : List Answer} → answers ≡ (rejudging older newer).answers
+        → Ok (record { carried = worsens older newer; answers = answers }) ≡ rejudged (rejudging older newer)
+    unfolding rejudged rejudging is_carried check_both
+    again-judged is e = rw e (simp (was, is))

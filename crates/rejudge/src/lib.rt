@@ -2,41 +2,24 @@
 #![tactic(auto)]
 
 ghost use Rattle.std.specs.Prelude.{◌≡◌};
-ghost use Rattle.rejudge.specs.Carried.{not_rejudged, Carried};
+ghost use Rattle.rejudge.specs.Carried.{about, Carried};
 
-use rules::{Faulty, Refusal, Rejudged, Table};
+use rules::{CarryRefusal, Faulty, Refusal, Rejudgement, Table};
 
-fn not_rejudged(refusal: Refusal, faulty: Faulty) -> Rejudged
-    ensures { result ≡ not_rejudged refusal faulty }
+// An answer about one of the two.
+pub fn about<T>(faulty: Faulty, answered: Result<T, Refusal>) -> Result<T, CarryRefusal>
+    ensures { result ≡ about faulty answered }
 {
-    let none = unjudged::none_judged(refusal);
-    let answers = none.answers;
-    Rejudged {
-        refusal,
-        faulty,
-        carried: false,
-        answers,
-    }
+    answered.map_err(|refusal| CarryRefusal { refusal, faulty })
 }
 
-// The newer table after the older one, from the older bounds where that is sound; and which of the two is refused.
-pub fn judge_carried(older: Table, newer: Table) -> Rejudged
+// The newer table after the older one, from the older bounds where that is sound; or why nothing is judged, and which of the two that is about.
+pub fn judge_carried(older: Table, newer: Table) -> Result<Rejudgement, CarryRefusal>
     ensures { Carried older newer result }
 {
-    let was = admit::table(older);
-    if was.number != 0 {
-        return not_rejudged(was, Faulty::Older);
-    }
-    let is = admit::table(newer);
-    if is.number != 0 {
-        return not_rejudged(is, Faulty::Newer);
-    }
+    about(Faulty::Older, admit::table(older))?;
+    about(Faulty::Newer, admit::table(newer))?;
     let carried = order::worsens(older, newer);
     let answers = after::answers_after(older, newer, carried);
-    Rejudged {
-        refusal: is,
-        faulty: Faulty::Neither,
-        carried,
-        answers,
-    }
+    Ok(Rejudgement { carried, answers })
 }

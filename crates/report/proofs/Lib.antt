@@ -1,3 +1,3 @@
 -- The laws that the proofs of the functions cite.
---     Lines  a report, by whether there is a refusal, and its line as code puts it together
+--     Lines  what is reported of a salvage is its report, and its line as code puts it together
 pub mod Lines

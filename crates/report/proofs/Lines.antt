@@ -1,26 +1,27 @@
--- A report, by whether there is a refusal, and its line as code puts it together. Assumes nothing.
+-- What is reported of a salvage is its report, and its line as code puts it together. Assumes nothing.
 use mathlib.Core.Path.{◌≡◌, refl}
-use mathlib.Core.List.{List, [], ◌∷◌, ◌++◌, append_assoc}
-use Prim.Native.Nat.{ℕ}
-use borrow.Author.Tests.{eq-eqb, ne_eqb}
+use mathlib.Core.Bool.{Bool, true, false}
+use mathlib.Core.List.{[], ◌∷◌, ◌++◌, append_assoc}
 use Rattle.laws.specs.Idioms.{text}
 use Rattle.laws.specs.Decimal.{decimal}
-use Rattle.rules.specs.Results.{Salvaged}
-use Rattle.rules.specs.Listing.{refused_line, report}
-use Rattle.report.specs.Counts.{counts_line}
+use Rattle.rules.specs.declared.Salvage.{Salvage}
+use Rattle.rules.specs.Chain.{is_accepted, granted}
+use Rattle.rules.specs.Results.{Salvaged, counts_of}
+use Rattle.rules.specs.Listing.{report}
+use Rattle.facts.proofs.Chain.{allowed, denied}
+use Rattle.report.specs.Counts.{counts_line, reported}
 
-module _ (r : Salvaged) where
-  pub refused-report : (r.refusal.number ≡ 0 → ⊥) → report r ≡ refused_line r.refusal.number
-  unfolding report
-  refused-report h = rw (ne_eqb r.refusal.number 0 h)
+pub reported_is : (r : Salvaged) → reported (granted r.refusal (counts_of r)) ≡ report r
+unfolding report counts_line
+reported_is r = go (is_accepted r.refusal) refl
+  where
+    go : (b : Bool) → is_accepted r.refusal ≡ b → reported (granted r.refusal (counts_of r)) ≡ report r
+    go true e = rw (allowed r.refusal (counts_of r) e, e)
+    go false e = rw (denied r.refusal (counts_of r) e, e)
 
-  pub counts-report : r.refusal.number ≡ 0 → report r ≡ counts_line r
-  unfolding report counts_line
-  counts-report h = rw (eq-eqb r.refusal.number 0 h)
-
-  pub counts-line : counts_line r
-      ≡ (text "promised " ++ (decimal r.promised ++ 32 ∷ []))
-      ++ (text "kept " ++ (decimal r.kept ++ 32 ∷ []))
-      ++ (text "stopped " ++ (decimal r.stopped ++ 10 ∷ []))
-  unfolding counts_line
-  counts-line = simp append_assoc
+pub counts-line : (r : Salvage) → counts_line r
+    ≡ (text "promised " ++ (decimal r.promised ++ 32 ∷ []))
+    ++ (text "kept " ++ (decimal r.kept ++ 32 ∷ []))
+    ++ (text "stopped " ++ (decimal r.stopped ++ 10 ∷ []))
+unfolding counts_line
+counts-line r = simp append_assoc

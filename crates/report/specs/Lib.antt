@@ -1,3 +1,3 @@
--- What an inner function promises. The rules say what a report is.
---     Counts  the line of the three counts
+-- What the functions promise beside the rules, which say what a report is.
+--     Counts  the report of what code answers
 pub mod Counts

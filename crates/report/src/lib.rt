@@ -2,10 +2,11 @@
 #![tactic(auto)]
 
 ghost use Rattle.std.specs.Prelude.{◌≡◌, ◌≤◌, length};
-ghost use Rattle.rules.specs.Results.{salvaged_by};
+ghost use Rattle.rules.specs.Chain.{granted};
+ghost use Rattle.rules.specs.Results.{Salvaged, counts_of};
 ghost use Rattle.rules.specs.Listing.{report};
 ghost use Rattle.text.specs.Put.{Put, Given};
-ghost use Rattle.report.specs.Counts.{counts_line};
+ghost use Rattle.report.specs.Counts.{counts_line, reported};
 
 use rules::{Refusal, Salvage};
 use text::{give, put_phrase};
@@ -23,8 +24,9 @@ fn put_counts(buf: &mut [u8], r: Salvage) -> usize
 
 // The report, whole, and its length; where it does not fit, nothing, and 0.
 pub fn line(answered: Result<Salvage, Refusal>, out: &mut [u8]) -> usize
-    ensures given { Given (report (salvaged_by answered)) out.old result out.new }
-    ensures r_len_bound { length (report (salvaged_by answered)) ≤ 85 }
+    ensures given { Given (reported answered) out.old result out.new }
+    ensures r_len_bound { length (reported answered) ≤ 85 }
+    ensures report { (r : Salvaged) → answered ≡ granted r.refusal (counts_of r) → reported answered ≡ report r }
 {
     match answered {
         Ok(counts) => {

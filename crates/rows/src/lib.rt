@@ -28,14 +28,9 @@ pub fn put_rows(buf: &mut [u8], at: usize, t: Table, answers: [Answer; 32]) -> u
     ensures put { Put buf.old at (rows t answers t.tasks) result buf.new }
     ensures upper_bound { result ≤ at + 3200 }
 {
-    let n = t.tasks as usize;
     let mut end = at;
-    let mut i: usize = 0;
-    while i < n {
-        let core = t.task[i].core;
-        let answer = answers[i];
-        i += 1;
-        end = put_row(buf, end, i as u64, core, answer);
+    for i in 0..usize::from(t.tasks) {
+        end = put_row(buf, end, i as u64 + 1, t.task[i].core, answers[i]);
     }
     end
 }

@@ -1,5 +1,5 @@
 -- What the operations answer, as docs/RULES.md has it: a refusal, of number 0 where nothing is refused, and beside it what is given. Assumes nothing.
-use Rattle.std.specs.Prelude.{ℕ, Bool, List, Result, Ok, Err}
+use Rattle.std.specs.Prelude.{ℕ, Bool, List}
 use Rattle.rules.specs.declared.Table.{Table}
 use Rattle.rules.specs.declared.Refusal.{Refusal}
 use Rattle.rules.specs.declared.Salvage.{Salvage}
@@ -24,13 +24,9 @@ pub record Salvaged : Type 0 where
   pub kept : ℕ
   pub stopped : ℕ
 
--- RULES 7.7: what code gives of it where nothing is refused; and all of it, by what code answers, with counts of 0 where something is (RULES 9.2)
+-- and of it what code gives where nothing is refused
 abbrev pub counts_of : Salvaged → Salvage
 counts_of r = record { length = r.length; promised = r.promised; kept = r.kept; stopped = r.stopped }
-
-abbrev pub salvaged_by : Result Salvage Refusal → Salvaged
-salvaged_by (Ok x) = record { refusal = record { number = 0; place = 0 }; length = x.length; promised = x.promised; kept = x.kept; stopped = x.stopped }
-salvaged_by (Err r) = record { refusal = r; length = 0; promised = 0; kept = 0; stopped = 0 }
 
 -- RULES 6.3: what the judgement of one task gives, and of all
 pub record Judged : Type 0 where

@@ -1,19 +1,11 @@
 // How long row hits take that follow each other (RULES 3.5), in cycles.
 #![tactic(auto)]
 
-ghost use Rattle.std.specs.Prelude.{◌≡◌, ◌*◌, ◌≤◌};
+ghost use Rattle.std.specs.Prelude.{◌≡◌, ◌≤◌};
 ghost use Rattle.rules.specs.Delays.{run};
 
-use cycles::{CL, TWR, TWTR, figure, less, turn};
+use cycles::{CL, TWR, TWTR, figure, turn};
 use rules::Cycles;
-
-// A count of at most 65535/2 rounded up, times a sum of figures.
-fn times(a: u64, b: u64) -> u64
-    requires { (a ≤ 32768) × (b ≤ 163837) }
-    ensures { (result ≡ a * b) × (result ≤ 32768 * 163837) }
-{
-    a * b
-}
 
 // RULES 3.5: the writes, then the reads, then the rest; nothing where there is no row hit.
 pub fn run(row: [u16; 15], m: u64) -> Cycles
@@ -23,7 +15,7 @@ pub fn run(row: [u16; 15], m: u64) -> Cycles
     if m == 0 {
         return Cycles(0);
     }
-    let writes = times((m + 1) / 2, turn(row));
-    let reads = times(m / 2, figure(row, CL));
-    Cycles(writes + reads + less(figure(row, TWR), figure(row, TWTR)))
+    let writes = (m + 1) / 2 * turn(row);
+    let reads = m / 2 * figure(row, CL);
+    Cycles(writes + reads + figure(row, TWR).saturating_sub(figure(row, TWTR)))
 }

@@ -2,19 +2,19 @@
 // standard output, or, where the new file is there, on standard error.
 #![tactic(auto)]
 
-use console::Got;
-use rules::Salvaged;
+use console::{Failed, Source};
+use rules::{Refusal, Salvage};
 
-// To the file that the second word names, or to standard output; and whether it was written.
-fn write(rt: HostRuntime, named: bool, file: &[u8]) -> bool {
+// To the file that the second word names, or to standard output.
+fn write(rt: HostRuntime, named: bool, file: &[u8]) -> Result<(), Failed> {
     if named {
         return console::make(rt, b"salvage: ", 2, file);
     }
     console::say(rt, b"salvage: ", file)
 }
 
-// The report, and whether it was written. What cannot be written to standard error cannot be told.
-fn tell(rt: HostRuntime, named: bool, salvaged: Salvaged) -> bool {
+// The report. What cannot be written to standard error cannot be told.
+fn tell(rt: HostRuntime, named: bool, salvaged: Result<Salvage, Refusal>) -> Result<(), Failed> {
     let mut out = [0u8; 85];
     let n = report::line(salvaged, &mut out);
     let line = lent_bytes::front(&out, n);
@@ -22,39 +22,37 @@ fn tell(rt: HostRuntime, named: bool, salvaged: Salvaged) -> bool {
         return console::say(rt, b"salvage: ", line);
     }
     console::note(rt, line);
-    true
+    Ok(())
 }
 
-// The file that a word names; word 0 is standard input.
-fn salvage(rt: HostRuntime, word: usize, file: &[u8]) -> u8 {
-    let named = word != 0;
+fn salvage(rt: HostRuntime, from: Source, file: &[u8]) -> Result<u8, Failed> {
+    let named = matches!(from, Source::Named(_));
     let mut new = [0u8; 990];
     let salvaged = salvaging::salvage(file, &mut new);
-    let refusal = salvaged.refusal;
-    let done = refusal.number == 0;
-    if done && !write(rt, named, lent_bytes::front(&new, salvaged.length)) {
-        return 3;
+    if let Ok(counts) = salvaged {
+        write(rt, named, lent_bytes::front(&new, counts.length))?;
     }
-    if !tell(rt, named, salvaged) {
-        return 3;
+    tell(rt, named, salvaged)?;
+    match salvaged {
+        Ok(_) => Ok(0),
+        Err(refusal) => {
+            console::explain(rt, b"salvage: ", from, refusal);
+            Ok(2)
+        }
     }
-    console::explain(rt, b"salvage: ", word, refusal.number, refusal.place);
-    if done { 0 } else { 2 }
 }
 
-fn take(rt: HostRuntime, word: usize) -> u8 {
+fn take(rt: HostRuntime, from: Source) -> Result<u8, Failed> {
     let mut file = [0u8; 7952];
-    match console::load(rt, b"salvage: ", word, &mut file) {
-        Got::Failed => 3,
-        Got::Bytes(n) => salvage(rt, word, input::front(&file, n)),
-    }
+    let n = console::load(rt, b"salvage: ", from, &mut file)?;
+    salvage(rt, from, input::front(&file, n))
 }
 
 fn main(rt: HostRuntime) {
-    let status = match console::words(rt) {
-        0 => take(rt, 0),
-        2 => take(rt, 1),
-        _ => console::usage(rt, b"usage: salvage [CUT NEW]\n"),
+    let ended = match console::words(rt) {
+        Some(0) => take(rt, Source::Input),
+        Some(2) => take(rt, Source::Named(1)),
+        _ => Err(console::usage(rt, b"usage: salvage [CUT NEW]\n")),
     };
-    console::tell(rt, status);
+    console::tell(rt, ended);
 }

@@ -1,33 +1,31 @@
 -- The refusals of salvaging, in their order, and what is given where there is none. Assumes nothing.
-use mathlib.Core.Path.{◌≡◌, refl, sym, ap, ◌∙◌}
-use mathlib.Core.Bool.{true, false}
+use mathlib.Core.Path.{◌≡◌, refl, sym, ◌∙◌}
+use mathlib.Core.Bool.{Bool, true, false}
 use mathlib.Core.List.{List}
 use Prim.Native.Nat.{ℕ, ◌≤◌, ◌<◌}
 use native.Mathlib.Omega.{arith}
-use lib.Dec.{ltb}
+use lib.Dec.{ltb, eqb}
 use lib.ListN.{length}
-use borrow.Author.Tests.{lt-ltb, le-ltb, ltb-false, eq-eqb, ne_eqb}
+use borrow.Author.Tests.{lt-ltb, ltb-false, ne_eqb}
 use Rattle.rules.specs.declared.Refusal.{Refusal}
-use Rattle.rules.specs.Results.{Salvaged}
-use Rattle.rules.specs.Results.{Written}
-use Rattle.rules.specs.Chain.{accepted, refused, is_accepted, ◌or_else◌, given}
+use Rattle.std.specs.Prelude.{Result, Ok, Err}
+use Rattle.rules.specs.declared.Salvage.{Salvage}
+use Rattle.rules.specs.Results.{counts_of}
+use Rattle.rules.specs.Chain.{accepted, is_accepted, ◌or_else◌, given, granted}
 use Rattle.rules.specs.Refusals.{check_board}
 use Rattle.rules.specs.File.{records_at, cores_in, tasks_in, form_in, encode, decode}
 use Rattle.rules.specs.Operations.{check_file, check_write, writing, out_after}
 use Rattle.rules.specs.Salvage.{ends_early, kept, stopped, salvaged_table, check_salvage, salvaging, salvaged_out}
 use Rattle.places.proofs.Places.{records-limit}
 use Rattle.facts.proofs.Accepted.{counts}
-use Rattle.facts.proofs.Chain.{both-accepted, no_fault}
+use Rattle.facts.proofs.Chain.{both-accepted, second_decides, no_fault, allowed, denied, denied-alike, was-allowed, was-denied}
 use Rattle.writer.specs.Answers.{Wrote}
+use Rattle.writer.proofs.Writing.{written_is}
 use Rattle.kept.proofs.Kept.{kept-most, salvaged-accepted}
-use Rattle.salvaging.specs.Front.{check_front, no_salvage, Salvages}
+use Rattle.salvaging.specs.Front.{check_front, salvaged_by, Salvages}
 
 module _ (s : List ℕ) where
   -- ---- 19, 17, then the board
-
-  pub front-accepted : is_accepted (check_file s) ≡ true → refused 19 0 ≡ check_front s
-  unfolding check_front
-  front-accepted e = simp e
 
   pub early : length s < records_at (form_in s) (cores_in s) → ends_early s ≡ true
   unfolding ends_early
@@ -37,22 +35,9 @@ module _ (s : List ℕ) where
   pub few_bytes : length s < 4 → ends_early s ≡ true
   few_bytes h = early (omega (arith, records-limit (form_in s) (cores_in s)))
 
-  pub late : records_at (form_in s) (cores_in s) ≤ length s → ends_early s ≡ false
-  unfolding ends_early
-  late h = le-ltb (length s) (records_at (form_in s) (cores_in s)) h
-
   pub reached : ends_early s ≡ false → records_at (form_in s) (cores_in s) ≤ length s
   unfolding ends_early
   reached e = ltb-false (length s) (records_at (form_in s) (cores_in s)) e
-
-  module _ (refusedFile : is_accepted (check_file s) ≡ false) where
-    pub front-early : ends_early s ≡ true → refused 17 0 ≡ check_front s
-    unfolding check_front
-    front-early e = simp (refusedFile, e)
-
-    pub front-board : ends_early s ≡ false → check_board (decode s) ≡ check_front s
-    unfolding check_front
-    front-board e = simp (refusedFile, e)
 
   -- past them
   module _ (front : is_accepted (check_front s) ≡ true) where
@@ -75,50 +60,71 @@ module _ (s : List ℕ) where
 
 -- ---- what is answered, and the bytes afterwards
 
+-- what is told of the new file
+abbrev pub new : List ℕ → Salvage
+new s = record { length = length (encode (salvaged_table s)); promised = tasks_in s; kept = kept s; stopped = stopped s }
+
 module _ (s out : List ℕ) where
-  refuses_so : (r : Refusal) → is_accepted r ≡ false → check_salvage s out ≡ r → Salvages s out (no_salvage r) out
-  unfolding salvaging salvaged_out
-  refuses_so r fails e = record { answered = rw (e, fails); small = omega arith; stored = rw (e, fails) }
-
-  pub refused-front : is_accepted (check_front s) ≡ false → Salvages s out (no_salvage (check_front s)) out
+  -- where nothing is refused, that is no refusal with a place
+  no_refusal : is_accepted (check_salvage s out) ≡ true → check_salvage s out ≡ accepted
   unfolding check_salvage check_front
-  refused-front fails = refuses_so (check_front s) fails (simp fails)
+  no_refusal passes =
+      let before : Refusal = check_front s or_else given 17 0 (eqb (kept s) 0) in
+      let room : Bool = ltb (length out) (length (encode (salvaged_table s))) in
+      let links = both-accepted before (given 15 0 room) passes in
+      second_decides before (given 15 0 room) links.0 ∙ rw (no_fault 14 0 room links.1)
 
-  module _ (front : is_accepted (check_front s) ≡ true) where
-    pub none_kept : kept s ≡ 0 → Salvages s out (no_salvage (refused 17 0)) out
-    unfolding check_salvage check_front
-    none_kept none = refuses_so (refused 17 0) refl (simp (front, eq-eqb (kept s) 0 none))
+  -- as code answers it, and back
+  pub answered_is : granted (salvaging s out).refusal (counts_of (salvaging s out)) ≡ granted (check_salvage s out) (new s)
+  unfolding salvaging
+  answered_is = go (is_accepted (check_salvage s out)) refl
+    where
+      go : (b : Bool) → is_accepted (check_salvage s out) ≡ b → granted (salvaging s out).refusal (counts_of (salvaging s out)) ≡ granted (check_salvage s out) (new s)
+      go true e = rw e
+      go false e = denied (check_salvage s out) _ e ∙ sym (denied (check_salvage s out) _ e)
 
-    module _ (some : 1 ≤ kept s) where
-      -- only the room is left to look at, as writing looks at it
-      last_link : check_salvage s out ≡ given 15 0 (ltb (length out) (length (encode (salvaged_table s))))
-      unfolding check_salvage check_front
-      last_link = simp (front, ne_eqb (kept s) 0 (λ none. omega arith))
+  pub told_is : salvaged_by (granted (salvaging s out).refusal (counts_of (salvaging s out))) ≡ salvaging s out
+  unfolding salvaging
+  told_is = go (is_accepted (check_salvage s out)) refl
+    where
+      go : (b : Bool) → is_accepted (check_salvage s out) ≡ b → salvaged_by (granted (salvaging s out).refusal (counts_of (salvaging s out))) ≡ salvaging s out
+      go true e = rw (allowed (check_salvage s out) (counts_of (salvaging s out)) e) (rw (no_refusal e))
+      go false e = rw (denied (check_salvage s out) (counts_of (salvaging s out)) e, e)
 
-      by_room : check_salvage s out ≡ check_write (salvaged_table s) out
-      unfolding check_write
-      by_room = last_link ∙ simp (salvaged-accepted s (front-board-passed s front) some)
+  -- a refusal changes nothing
+  pub refuses_all : {r : Result Salvage Refusal} {d : Refusal} → r ≡ Err d → r ≡ granted (check_salvage s out) (new s) → Salvages s out r out
+  unfolding salvaging salvaged_out
+  refuses_all is e =
+      let not = (was-denied (check_salvage s out) (new s) (sym (sym is ∙ e))).0 in
+      record { answered = e ∙ sym answered_is; stored = rw not; small = rw not (omega arith) }
 
-      no_refusal : is_accepted (check_salvage s out) ≡ true → check_salvage s out ≡ accepted
-      no_refusal passes = let none = no_fault 14 0 (ltb (length out) (length (encode (salvaged_table s)))) (rw last_link at passes) in last_link ∙ rw none
+  -- writing looks only at the room where a board passed and records are kept
+  by_room : is_accepted (check_front s) ≡ true → 1 ≤ kept s → check_salvage s out ≡ check_write (salvaged_table s) out
+  unfolding check_salvage check_front check_write
+  by_room front some =
+      let passes = salvaged-accepted s (front-board-passed s front) some in
+      simp (front, ne_eqb (kept s) 0 (λ none. omega arith), passes)
 
-      module _ {w : Written} {after : List ℕ} (wrote : Wrote (salvaged_table s) out w after) where
-        refusal_is : w.refusal ≡ check_salvage s out
-        unfolding writing
-        refusal_is = ap (λ (x : Written). x.refusal) wrote.answered ∙ sym by_room
+  module _ (front : is_accepted (check_front s) ≡ true) (some : 1 ≤ kept s) {w : Result ℕ Refusal} {after : List ℕ} (wrote : Wrote (salvaged_table s) out w after) where
+    links : w ≡ granted (check_salvage s out) (length (encode (salvaged_table s)))
+    links = wrote.answered ∙ written_is _ _ ∙ rw (by_room front some)
 
-        pub no_room : (w.refusal.number ≡ 0 → ⊥) → Salvages s out (no_salvage w.refusal) after
-        unfolding out_after
-        no_room fails =
-            let e = ne_eqb w.refusal.number 0 fails in
-            let kept-bytes : after ≡ out = wrote.stored ∙ rw (← by_room, ← refusal_is, e) in
-            rw kept-bytes (refuses_so w.refusal e (sym refusal_is))
+    pub no_room : {d : Refusal} {r : Result Salvage Refusal} → w ≡ Err d → r ≡ Err d → Salvages s out r after
+    unfolding out_after
+    no_room {d} fails is =
+        let e : Err d ≡ granted (check_salvage s out) (length (encode (salvaged_table s))) = sym fails ∙ links in
+        let not = (was-denied _ _ (sym e)).0 in
+        let kept-bytes : after ≡ out = wrote.stored ∙ rw (← by_room front some, not) in
+        rw kept-bytes (refuses_all is (is ∙ denied-alike _ _ (new s) e))
 
-        pub salvaged : w.refusal.number ≡ 0 → {n : ℕ} {m : ℕ} → n ≡ kept s → m ≡ stopped s
-            → Salvages s out (record { refusal = accepted; length = w.length; promised = tasks_in s; kept = n; stopped = m }) after
-        unfolding salvaging salvaged_out writing out_after
-        salvaged passes is stop =
-            let fits = rw refusal_is at (eq-eqb w.refusal.number 0 passes) in
-            let written = rw by_room at fits in
-            let long : w.length ≡ length (encode (salvaged_table s)) = ap (λ (x : Written). x.length) wrote.answered ∙ rw written in
-            record { answered = rw (no_refusal fits, long, is, stop); small = wrote.small; stored = wrote.stored ∙ rw (written, fits) }
+    pub salvaged : {n k m : ℕ} → w ≡ Ok n → k ≡ kept s → m ≡ stopped s
+        → Salvages s out (Ok (record { length = n; promised = tasks_in s; kept = k; stopped = m })) after
+    unfolding salvaging salvaged_out out_after writing
+    salvaged {n} passes is stop =
+        let e : Ok n ≡ granted (check_salvage s out) (length (encode (salvaged_table s))) = sym passes ∙ links in
+        let was = was-allowed _ _ (sym e) in
+        record {
+          answered = rw (← was.1, is, stop) (sym (allowed (check_salvage s out) (new s) was.0)) ∙ sym answered_is;
+          small = rw was.0 (rw (← by_room front some, was.0) at wrote.small);
+          stored = wrote.stored ∙ rw (← by_room front some, was.0);
+        }

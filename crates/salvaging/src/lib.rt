@@ -3,13 +3,12 @@
 
 ghost use Rattle.std.specs.Prelude.{◌≡◌, true, false, cond, ◌+◌, ◌≤◌, eqb};
 ghost use Rattle.rules.specs.Chain.{is_accepted, granted};
-ghost use Rattle.rules.specs.Results.{salvaged_by};
 ghost use Rattle.rules.specs.Refusals.{check_board};
 ghost use Rattle.rules.specs.File.{decode};
 ghost use Rattle.rules.specs.Salvage.{ends_early, kept, salvaged_table, salvaging, salvaged_out};
 ghost use Rattle.plain.specs.Codes.{salvage_code};
 ghost use Rattle.writer.specs.Answers.{Wrote};
-ghost use Rattle.salvaging.specs.Front.{check_front, Salvages};
+ghost use Rattle.salvaging.specs.Front.{check_front, salvaged_by, Salvages};
 
 use chain::refuse_if;
 use rules::{Refusal, Salvage};

@@ -1,3 +1,5 @@
--- The laws that proofs of this crate and of others cite.
---     Column     a column of a list, filled place by place
+-- What proofs stand on, of this crate and of `after`.
+--     Mapped   an array mapped
+--     Column   a column filled place by place, as `after` fills one
+pub mod Mapped
 pub mod Column

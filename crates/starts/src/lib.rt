@@ -9,11 +9,5 @@ use rules::Picos;
 pub fn numbers(starts: [Picos; 32]) -> [u64; 32]
     ensures { result ≡ in_picos starts }
 {
-    let mut column = [0u64; 32];
-    let mut i: usize = 0;
-    while i < 32 {
-        column[i] = starts[i].0;
-        i += 1;
-    }
-    column
+    starts.map(|start| start.0)
 }

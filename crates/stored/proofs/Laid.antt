@@ -1,20 +1,20 @@
 -- Outputs that answers are stored into, one after the other, where each has room. Assumes nothing.
 use mathlib.Core.Path.{◌≡◌, refl, ap}
-use mathlib.Core.Bool.{true, false, ◌||◌}
+use mathlib.Core.Bool.{false, ◌||◌}
 use mathlib.Core.List.{List, [], ◌∷◌, ◌++◌, map, map-append}
 use Prim.Native.Nat.{ℕ, ◌+◌, ◌<◌, ◌≤◌}
 use native.Mathlib.Omega.{arith}
 use native.Mathlib.Numerals.{add-one}
 use lib.ListN.{length, length-map, length-append, length-drop, take, get_or, set}
-use lib.Seq.{take-suc, length-take-le}
+use lib.Seq.{take-suc, take_all, length-take-le}
 use borrow.Author.Tests.{ltb-false}
 use Rattle.rules.specs.declared.Answer.{Answer}
 use Rattle.rules.specs.declared.Refusal.{Refusal}
 use Rattle.rules.specs.Judgement.{misses}
-use Rattle.rules.specs.Chain.{accepted, refused, is_accepted}
+use Rattle.rules.specs.Chain.{accepted, is_accepted, granted, refusal_of}
+use Rattle.facts.proofs.Chain.{number_of}
 use Rattle.laws.proofs.Tests.{or_neither}
-use Rattle.plain.specs.Codes.{too_short}
-use Rattle.stored.specs.Stored.{short, check_outputs, laid_over, bound_in, rounds_in, by_in, Stored}
+use Rattle.stored.specs.Stored.{short, laid_over, bound_in, rounds_in, by_in, Stored}
 
 -- ---- one output
 
@@ -46,53 +46,54 @@ module _ {A : Type 0} (f : A → ℕ) (l : List A) (i : ℕ) (out : List ℕ) wh
 pub unchanged : {r : Refusal} {answers : List Answer} {bounds rounds by : List ℕ} → is_accepted r ≡ false → Stored r answers bounds rounds by bounds rounds by
 unchanged e = record { bounds_are = rw e; rounds_are = rw e; by_are = rw e }
 
--- one is too short
-pub too_short_lem : (n : ℕ) {answers : List Answer} {bounds rounds by : List ℕ} {r : Refusal}
-    → (short n bounds || short n rounds || short n by) ≡ true → r ≡ refused too_short 0
-    → (r ≡ check_outputs n bounds rounds by) × Stored r answers bounds rounds by bounds rounds by
-unfolding check_outputs
-too_short_lem n e is = (rw (is, e), unchanged (rw is))
+-- what is stored by the refusal that an answer has is so by the refusal that it is made of
+pub stored-by : {A : Type 0} (r : Refusal) (x : A) {answers : List Answer} {bounds rounds by bounds' rounds' by' : List ℕ}
+    → Stored (refusal_of (granted r x)) answers bounds rounds by bounds' rounds' by' → Stored r answers bounds rounds by bounds' rounds' by'
+stored-by r x so = record {
+  bounds_are = rw (number_of r x) at so.bounds_are;
+  rounds_are = rw (number_of r x) at so.rounds_are;
+  by_are = rw (number_of r x) at so.by_are;
+}
 
 -- each has room, and the first i answers are in it
-pub record Storing (answers : List Answer) (n i : ℕ) (bounds rounds by bounds' rounds' by' : List ℕ) : Type 0 where
-  pub reached : i ≤ n
-  pub has_room : (short n bounds || short n rounds || short n by) ≡ false
+pub record Storing (answers : List Answer) (i : ℕ) (bounds rounds by bounds' rounds' by' : List ℕ) : Type 0 where
+  pub reached : i ≤ length answers
+  pub has_room : (short (length answers) bounds || short (length answers) rounds || short (length answers) by) ≡ false
   pub stored : Stored accepted (take i answers) bounds rounds by bounds' rounds' by'
 
-module _ {answers : List Answer} {n i : ℕ} {bounds rounds by bounds' rounds' by' : List ℕ}
-    (so : Storing answers n i bounds rounds by bounds' rounds' by') (few : n ≤ length answers) where
-  room : (n ≤ length bounds) × (n ≤ length rounds) × (n ≤ length by)
+module _ {answers : List Answer} {i : ℕ} {bounds rounds by bounds' rounds' by' : List ℕ} (so : Storing answers i bounds rounds by bounds' rounds' by') where
+  room : (length answers ≤ length bounds) × (length answers ≤ length rounds) × (length answers ≤ length by)
   room =
+      let n = length answers in
       let (two, third) = or_neither (short n bounds || short n rounds) (short n by) so.has_room in
       let (first, second) = or_neither (short n bounds) (short n rounds) two in
       (ltb-false _ _ first, ltb-false _ _ second, ltb-false _ _ third)
 
-  pub lengths : (length bounds' ≡ length bounds) × (length rounds' ≡ length rounds) × (length by' ≡ length by)
+  lengths : (length bounds' ≡ length bounds) × (length rounds' ≡ length rounds) × (length by' ≡ length by)
   lengths = (
-    rw so.stored.bounds_are (laid_length bound_in answers i bounds (omega arith) (omega (arith, so.reached, room.0))),
-    rw so.stored.rounds_are (laid_length rounds_in answers i rounds (omega arith) (omega (arith, so.reached, room.1))),
-    rw so.stored.by_are (laid_length by_in answers i by (omega arith) (omega (arith, so.reached, room.2))),
+    rw so.stored.bounds_are (laid_length bound_in answers i bounds so.reached (omega (arith, so.reached, room.0))),
+    rw so.stored.rounds_are (laid_length rounds_in answers i rounds so.reached (omega (arith, so.reached, room.1))),
+    rw so.stored.by_are (laid_length by_in answers i by so.reached (omega (arith, so.reached, room.2))),
   )
 
-  -- a place of each output
-  pub fits : i < n → (i < length bounds') × (i < length rounds') × (i < length by')
-  fits h = (omega (arith, lengths.0, room.0), omega (arith, lengths.1, room.1), omega (arith, lengths.2, room.2))
+  module _ (h : i < length answers) where
+    -- a place of each output
+    pub fits : (i < length bounds') × (i < length rounds') × (i < length by')
+    fits = (omega (arith, lengths.0, room.0), omega (arith, lengths.1, room.1), omega (arith, lengths.2, room.2))
 
-  -- one answer more
-  pub storing_next : i < n → let a = get_or answers i (misses 0) in
-      Storing answers n (i + 1) bounds rounds by (set bounds' i (bound_in a)) (set rounds' i (rounds_in a)) (set by' i (by_in a))
-  storing_next h = record {
-    reached = omega arith;
-    has_room = so.has_room;
-    stored = record {
-      bounds_are = rw so.stored.bounds_are (laid_next bound_in answers i bounds (misses 0) (omega arith) (omega (arith, room.0)));
-      rounds_are = rw so.stored.rounds_are (laid_next rounds_in answers i rounds (misses 0) (omega arith) (omega (arith, room.1)));
-      by_are = rw so.stored.by_are (laid_next by_in answers i by (misses 0) (omega arith) (omega (arith, room.2)));
-    };
-  }
+    -- one answer more
+    pub storing_next : let a = get_or answers i (misses 0) in
+        Storing answers (i + 1) bounds rounds by (set bounds' i (bound_in a)) (set rounds' i (rounds_in a)) (set by' i (by_in a))
+    storing_next = record {
+      reached = omega arith;
+      has_room = so.has_room;
+      stored = record {
+        bounds_are = rw so.stored.bounds_are (laid_next bound_in answers i bounds (misses 0) h (omega (arith, room.0)));
+        rounds_are = rw so.stored.rounds_are (laid_next rounds_in answers i rounds (misses 0) h (omega (arith, room.1)));
+        by_are = rw so.stored.by_are (laid_next by_in answers i by (misses 0) h (omega (arith, room.2)));
+      };
+    }
 
   -- all of them
-  pub storing_done : {r : Refusal} → n ≤ i → r ≡ refused 0 0
-      → (r ≡ check_outputs n bounds rounds by) × Stored r (take n answers) bounds rounds by bounds' rounds' by'
-  unfolding check_outputs
-  storing_done end is = let all : i ≡ n = omega (arith, so.reached) in (rw (is, so.has_room), rw is (rw all at so.stored))
+  pub storing_done : length answers ≤ i → Stored accepted answers bounds rounds by bounds' rounds' by'
+  storing_done end = rw (take_all i answers end) at so.stored

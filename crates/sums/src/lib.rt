@@ -1,7 +1,7 @@
 // The two sums of a trailer, over lent bytes: a block of words at a time, and byte by byte what is left.
 #![tactic(auto)]
 
-ghost use Rattle.std.specs.Prelude.{◌≡◌, ◌+◌, ◌*◌, ◌<◌, ◌≤◌, min, length};
+ghost use Rattle.std.specs.Prelude.{◌≡◌, ◌+◌, ◌*◌, ◌<◌, ◌≤◌, length};
 ghost use Rattle.lanes.specs.Sums.{sums_of, joined_sums};
 
 use lanes::Totals;
@@ -11,24 +11,13 @@ fn byte_sums(s: &[u8]) -> Totals
     requires { length s.now ≤ 65536 }
     ensures { result ≡ sums_of s.now }
 {
-    let mut sum: u64 = 0;
-    let mut running: u64 = 0;
-    let mut at: usize = 0;
-    while at < s.len() {
-        sum += s[at] as u64;
+    let mut sum = 0;
+    let mut running = 0;
+    for byte in s {
+        sum += u64::from(*byte);
         running += sum;
-        at += 1;
     }
-    Totals {
-        sum: sum,
-        running: running,
-    }
-}
-
-fn least(a: usize, b: usize) -> usize
-    ensures { result ≡ min a b }
-{
-    if a < b { a } else { b }
+    Totals { sum, running }
 }
 
 // The sums a of some bytes and the sums b of the n bytes after them, together.
@@ -48,14 +37,10 @@ pub fn sums(s: &[u8]) -> Totals
     requires { length s.now ≤ 65536 }
     ensures { result ≡ sums_of s.now }
 {
+    let (words, rest) = s.split_at(s.len() - s.len() % 8);
     let mut t = Totals { sum: 0, running: 0 };
-    let mut at: usize = 0;
-    while at + 8 <= s.len() {
-        let e = at + 8 * least(16, (s.len() - at) / 8);
-        let words = lanes::word_sums(&s[at..e]);
-        t = joined(t, words, e - at);
-        at = e;
+    for block in words.chunks(128) {
+        t = joined(t, lanes::word_sums(block), block.len());
     }
-    let rest = byte_sums(&s[at..]);
-    joined(t, rest, s.len() - at)
+    joined(t, byte_sums(rest), rest.len())
 }

@@ -90,10 +90,9 @@ pub fn no_task() -> Task
 
 // Task number k. Beyond the array there is no task.
 pub fn task_of(t: &Table, k: u8) -> Task
-    requires { 1 ≤ k }
     ensures { result ≡ task_of t.now k }
 {
-    match t.task.get(k as usize - 1) {
+    match t.task.get((k as usize).saturating_sub(1)) {
         Some(task) => *task,
         None => no_task(),
     }

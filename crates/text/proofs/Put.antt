@@ -1,20 +1,15 @@
--- Texts that are put one after the other are one text; and what a loop that stores a text byte by byte has still to store. Assumes nothing.
+-- Texts that are put one after the other are one text; and a text that fills a part of a buffer is put there. Assumes nothing.
 use mathlib.Core.Path.{◌≡◌, refl, ◌∙◌}
-use mathlib.Core.List.{List, [], ◌∷◌, ◌++◌}
-use Prim.Native.Nat.{ℕ, suc, ◌+◌, ◌<◌, ◌≤◌}
+use mathlib.Core.List.{List, [], ◌∷◌, ◌++◌, append_assoc}
+use Prim.Native.Nat.{ℕ, ◌+◌, ◌-◌, ◌<◌, ◌≤◌}
 use native.Mathlib.Omega.{arith}
-use native.Mathlib.Nat.{add-zero, zero-add}
-use native.Mathlib.Numerals.{add-one}
-use lib.ListN.{length, get_or, take, drop, set, length-append, drop_of_length-le}
-use lib.Seq.{sets, sets-eq, drop-cons, take-append_seam}
+use native.Mathlib.Nat.{zero-add}
+use borrow.Rule.Slice.PartMut.{put_mid}
+use lib.ListN.{length, take, set, length-append}
+use lib.Seq.{sets-eq, drop-drop, take-append_seam}
 use borrow.Author.Tests.{le-leb, lt-leb}
+use Rattle.laws.proofs.Runs.{sets-after}
 use Rattle.text.specs.Put.{Put, Given}
-
-sets-append : (l : List ℕ) (at : ℕ) (v w : List ℕ) → sets (sets l at v) (at + length v) w ≡ sets l at (v ++ w)
-sets-append l at [] w = rw add-zero
-sets-append l at (b ∷ v) w =
-    let e : at + suc (length v) ≡ suc at + length v = omega arith in
-    rw (e, sets-append (set l at b) (suc at) v w)
 
 pub nothing : (l : List ℕ) (at : ℕ) → Put l at [] at l
 nothing l at = record { ends = omega arith; bytes = refl }
@@ -27,17 +22,14 @@ infixl 5 ◌then◌
 pub ◌then◌ : {l m r : List ℕ} {at mid next : ℕ} {v w : List ℕ} → Put l at v mid m → Put m mid w next r → Put l at (v ++ w) next r
 ◌then◌ {l} {m} {r} {at} {mid} {next} {v} {w} p q = record {
   ends = omega (arith, p.ends, q.ends, length-append v w);
-  bytes = rw (q.bytes, p.bytes, p.ends, sets-append l at v w);
+  bytes = rw (q.bytes, p.bytes) (sets-after v w l at mid p.ends);
 }
 
-module _ (l : List ℕ) (at : ℕ) (w : List ℕ) (i : ℕ) where
-  pub store_next : i < length w → sets l (at + i) (drop i w) ≡ sets (set l (at + i) (get_or w i 0)) (at + (i + 1)) (drop (i + 1) w)
-  store_next h =
-      let e : at + (i + 1) ≡ suc (at + i) = omega arith in
-      rw (e, add-one i, drop-cons w i 0 h)
-
-  pub store_done : length w ≤ i → sets l (at + i) (drop i w) ≡ l
-  store_done h = rw (drop_of_length-le w h)
+-- a part that is written whole and given back
+pub part-put : (l : List ℕ) (at : ℕ) (w : List ℕ) → at + length w ≤ length l → Put l at w (at + length w) (put_mid at (at + length w - at) l w)
+part-put l at w room =
+    let e : at + length w - at ≡ length w = omega arith in
+    record { ends = refl; bytes = rw (e, drop-drop, sets-eq w l at room, append_assoc) }
 
 -- what has been put at the start
 module _ {l r text : List ℕ} {next : ℕ} (p : Put l 0 text next r) where

@@ -11,12 +11,9 @@ pub fn put_word(buf: &mut [u8], at: usize, word: &[u8]) -> usize
     requires { at + length word.now ≤ length buf.old }
     ensures { Put buf.old at word.now result buf.new }
 {
-    let mut i: usize = 0;
-    while i < word.len() {
-        buf[at + i] = word[i];
-        i += 1;
-    }
-    at + i
+    let end = at + word.len();
+    buf[at..end].copy_from_slice(word);
+    end
 }
 
 // A number in decimal digits, of which a u64 has at most 20.

@@ -1,28 +1,12 @@
 -- The relations as comparisons, by their numbers. Assumes nothing.
-use Prim.Native.Nat.{ℕ, ◌+◌, ◌/◌, ◌%◌, ◌≤◌}
+use Prim.Native.Nat.{◌+◌, ◌/◌, ◌%◌}
 use mathlib.Core.Path.{◌≡◌, refl}
-use mathlib.Core.Bool.{Bool, true, false, not}
-use native.Mathlib.Omega.{arith}
+use mathlib.Core.Bool.{not}
 use lib.Dec.{leb, ltb, eqb}
-use borrow.Author.Tests.{lt-ltb, le-ltb, le-leb, lt-leb, leb-true, leb-false, ltb-true, ltb-false}
 use Rattle.rules.specs.Timing.{Row, CL, WL, BL, tWTR, tWR, tRCD, tRAS, tRTP, Ncols}
 use Rattle.rules.specs.Delays.{hit}
 use Rattle.rules.specs.Refusals.{relations_hold, relation_fault}
-
--- a comparison turned round
-not_most : (a b : ℕ) → ltb a b ≡ not (leb b a)
-not_most a b = go (leb b a) refl
-  where
-    go : (x : Bool) → leb b a ≡ x → ltb a b ≡ not x
-    go true e = le-ltb a b (leb-true b a e)
-    go false e = lt-ltb a b (leb-false b a e)
-
-not_less : (a b : ℕ) → leb a b ≡ not (ltb b a)
-not_less a b = go (ltb b a) refl
-  where
-    go : (x : Bool) → ltb b a ≡ x → leb a b ≡ not x
-    go true e = lt-leb a b (ltb-true b a e)
-    go false e = le-leb a b (ltb-false b a e)
+use Rattle.chain.proofs.Faults.{not_most, not_less}
 
 module _ (w : Row) where
   pub relation_1 : ltb (tWR w) (tWTR w) ≡ relation_fault w 1
@@ -44,7 +28,3 @@ module _ (w : Row) where
   pub relation_5 : not (eqb (Ncols w % BL w) 0) ≡ relation_fault w 5
   unfolding relations_hold relation_fault
   relation_5 = refl
-
--- a number that is none of the first four
-pub fifth : (k : ℕ) → (1 ≤ k) × (k ≤ 5) → (k ≡ 1 → ⊥) → (k ≡ 2 → ⊥) → (k ≡ 3 → ⊥) → (k ≡ 4 → ⊥) → k ≡ 5
-fifth k within one two three four = omega arith

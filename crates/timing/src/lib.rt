@@ -27,25 +27,18 @@ fn remainder(a: u64, b: u64) -> u64
     if b == 0 { a } else { a % b }
 }
 
-// Is relation k of RULES 2.5 broken?
+// Is relation k of RULES 2.5 broken? The number is the document's and the refusal's place (`check_timing`), so it is no enum's.
 fn relation_fault(row: [u16; 15], k: u8) -> bool
     requires { (1 ≤ k) × (k ≤ 5) }
     ensures { result ≡ relation_fault row k }
 {
-    if k == 1 {
-        return figure(row, cycles::TWR) < figure(row, cycles::TWTR);
+    match k {
+        1 => figure(row, cycles::TWR) < figure(row, cycles::TWTR),
+        2 => cycles::turn(row) < figure(row, cycles::CL),
+        3 => figure(row, cycles::CL) + figure(row, cycles::BL) / 2 + 2 <= figure(row, cycles::TRTP),
+        4 => figure(row, cycles::TRCD) + hits::hit(row).0 <= figure(row, cycles::TRAS),
+        _ => remainder(figure(row, cycles::NCOLS), figure(row, cycles::BL)) != 0,
     }
-    if k == 2 {
-        return cycles::turn(row) < figure(row, cycles::CL);
-    }
-    if k == 3 {
-        return figure(row, cycles::CL) + figure(row, cycles::BL) / 2 + 2
-            <= figure(row, cycles::TRTP);
-    }
-    if k == 4 {
-        return figure(row, cycles::TRCD) + hits::hit(row).0 <= figure(row, cycles::TRAS);
-    }
-    remainder(figure(row, cycles::NCOLS), figure(row, cycles::BL)) != 0
 }
 
 // Refusal 7 (RULES 9.3), with the first relation at fault.

@@ -1,34 +1,20 @@
--- Viewing, one refusal at a time, and what is known of a task whose record is shown. Assumes nothing.
+-- What is shown, and what is known of a task whose record is shown. Assumes nothing.
 use mathlib.Core.Path.{◌≡◌}
 use mathlib.Core.Bool.{true, false}
-use mathlib.Core.Logic.{◌⊎◌, ⊎_elim}
 use mathlib.Core.List.{List, []}
-use Prim.Native.Nat.{ℕ, ◌<◌, ◌≤◌}
-use borrow.Author.Tests.{le-leb, lt-leb, not-false}
-use Rattle.rules.specs.Chain.{accepted, refused, is_accepted, given}
+use Prim.Native.Nat.{ℕ}
+use borrow.Author.Tests.{not-false}
+use Rattle.rules.specs.Chain.{is_accepted, given}
 use Rattle.rules.specs.Refusals.{asked_fault}
 use Rattle.rules.specs.File.{tasks_in, record_in, decode}
 use Rattle.rules.specs.Operations.{check_file, check_view, viewing}
 use Rattle.laws.specs.Idioms.{Within}
-use Rattle.laws.proofs.Tests.{and_false, inside}
+use Rattle.laws.proofs.Tests.{inside}
 use Rattle.facts.proofs.Chain.{both-accepted, no_fault}
 use Rattle.fields.specs.Places.{Sized}
 use Rattle.file.proofs.Reading.{file_sized}
 
 module _ (s : List ℕ) (k : ℕ) where
-  pub view-refused : is_accepted (check_file s) ≡ false → check_view s k ≡ check_file s
-  unfolding check_view
-  view-refused e = rw e
-
-  module _ (read : is_accepted (check_file s) ≡ true) where
-    pub asked_out : (k < 1) ⊎ (tasks_in s < k) → check_view s k ≡ refused 12 0
-    unfolding check_view asked_fault decode
-    asked_out out = ⊎_elim (λ h. rw (read, lt-leb 1 k h)) (λ h. rw (read, lt-leb k (tasks_in s) h, and_false)) out
-
-    pub asked_in : 1 ≤ k → k ≤ tasks_in s → check_view s k ≡ accepted
-    unfolding check_view asked_fault decode
-    asked_in low high = rw (read, le-leb 1 k low, le-leb k (tasks_in s) high)
-
   pub view-nothing : is_accepted (check_view s k) ≡ false → viewing s k ≡ []
   unfolding viewing
   view-nothing e = rw e

@@ -5,6 +5,7 @@ ghost use Rattle.std.specs.Prelude.{◌≡◌};
 ghost use Rattle.rules.specs.Chain.{granted};
 ghost use Rattle.rules.specs.Operations.{check_view, viewing};
 
+use basics::outside;
 use chain::refuse_if;
 use rules::Refusal;
 
@@ -13,7 +14,7 @@ pub fn view_refusal(file: &[u8], k: u8) -> Result<(), Refusal>
     ensures { result ≡ granted (check_view file.now k) tt }
 {
     file::check(file)?;
-    refuse_if(k < 1 || file[2] < k, 12, 0)
+    refuse_if(outside(1, u64::from(file[2]), u64::from(k)), 12, 0)
 }
 
 // Viewing (RULES 7.4); what is refused shows no byte (RULES 9.2).

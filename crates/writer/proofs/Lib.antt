@@ -1,3 +1,3 @@
 -- What the proof of writing stands on.
---     Writing  what writing answers, one refusal at a time
+--     Writing  what writing promises, refused and done, and the whole file stored
 pub mod Writing

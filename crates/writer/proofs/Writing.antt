@@ -1,19 +1,19 @@
--- Writing, one refusal at a time, and the whole file stored. Assumes nothing.
+-- What writing promises, refused and done, and the whole file stored. Assumes nothing.
 use mathlib.Core.Path.{◌≡◌, sym, ◌∙◌}
-use mathlib.Core.Bool.{true, false}
 use mathlib.Core.List.{List, ◌++◌}
-use Prim.Native.Nat.{ℕ, ◌+◌, ◌<◌, ◌≤◌}
+use Prim.Native.Nat.{ℕ, ◌+◌, ◌≤◌}
 use native.Mathlib.Omega.{arith}
 use native.Mathlib.Nat.{zero-add}
 use lib.ListN.{length, length-append, take, drop}
 use lib.Seq.{sets, take-append_seam}
-use borrow.Author.Tests.{lt-ltb, le-ltb}
+use Rattle.std.specs.Prelude.{Result, Ok, Err}
 use Rattle.rules.specs.declared.Table.{Table}
-use Rattle.rules.specs.Chain.{accepted, refused, is_accepted}
-use Rattle.rules.specs.Refusals.{check_table}
+use Rattle.rules.specs.Chain.{granted}
+use Rattle.rules.specs.declared.Refusal.{Refusal}
 use Rattle.rules.specs.File.{sets_at, records_at, record_size, file_length, trailer, body, encode}
 use Rattle.rules.specs.Operations.{check_write, writing, out_after}
-use Rattle.writer.specs.Answers.{wrote_nothing, Wrote}
+use Rattle.writer.specs.Answers.{Wrote}
+use Rattle.facts.proofs.Chain.{granted-where, was-denied, was-allowed}
 use Rattle.laws.proofs.Bytes.{bytes-length}
 use Rattle.laws.proofs.Runs.{sets-after, sets-front}
 
@@ -27,19 +27,24 @@ unfolding encode trailer
 encode-length t = simp (length-append, bytes-length)
 
 module _ (t : Table) (out : List ℕ) where
-  pub table-refused : is_accepted (check_table t) ≡ false → Wrote t out (wrote_nothing (check_table t)) out
-  unfolding writing out_after check_write
-  table-refused e = record { answered = simp e; stored = simp e; small = omega arith }
+  -- as code answers it
+  pub written_is : granted (writing t out).refusal (writing t out).length ≡ granted (check_write t out) (length (encode t))
+  unfolding writing
+  written_is = granted-where _ _ _
 
-  module _ (passed : is_accepted (check_table t) ≡ true) where
-    pub no_room : length out < length (encode t) → Wrote t out (wrote_nothing (refused 15 0)) out
-    unfolding writing out_after check_write
-    no_room h = record { answered = rw (passed, lt-ltb _ _ h); stored = rw (passed, lt-ltb _ _ h); small = omega arith }
+  -- a refusal changes nothing
+  pub refuses_all : {r : Result ℕ Refusal} {d : Refusal} → r ≡ Err d → r ≡ granted (check_write t out) (length (encode t)) → Wrote t out r out
+  unfolding writing out_after
+  refuses_all is e =
+      let not = (was-denied (check_write t out) (length (encode t)) (sym (sym is ∙ e))).0 in
+      record { answered = e ∙ sym written_is; stored = rw not; small = rw not (omega arith) }
 
-    pub room : length (encode t) ≤ length out → length (encode t) ≤ 990
-        → Wrote t out (record { refusal = accepted; length = length (encode t) }) (encode t ++ drop (length (encode t)) out)
-    unfolding writing out_after check_write
-    room h few = record { answered = rw (passed, le-ltb _ _ h); stored = rw (passed, le-ltb _ _ h); small = few }
+  pub writes_all : {n : ℕ} → Ok n ≡ granted (check_write t out) (length (encode t)) → length (encode t) ≤ 990
+      → Wrote t out (Ok n) (encode t ++ drop (length (encode t)) out)
+  unfolding writing out_after
+  writes_all e few =
+      let yes = (was-allowed (check_write t out) (length (encode t)) (sym e)).0 in
+      record { answered = e ∙ sym written_is; stored = rw yes; small = rw yes few }
 
   -- the body stored, then the trailer of what is stored
   pub file_stores : length (encode t) ≤ length out

@@ -1,12 +1,18 @@
--- Bit 1 is set, or was. Assumes nothing.
-use mathlib.Core.Path.{sym, ◌∙◌}
-use Rattle.rules.specs.Kinds.{marked}
+-- Bit 1 is set, or was: of each of the four bytes. Assumes nothing.
+use mathlib.Core.Path.{◌≡◌, refl}
+use Prim.Native.Nat.{ℕ, zero, suc, ◌<◌}
+use native.Mathlib.Omega.{arith}
+use Rattle.std.specs.Prelude.{bit_or}
+use Rattle.rules.specs.Kinds.{says_salvaged, marked}
 use Rattle.basics.proofs.mark_salvaged.Goals as goal
 
-pub returns-then-says_salvaged : goal.returns-then-says_salvaged
-unfolding marked
-returns-then-says_salvaged c = rw (sym c.says_salvaged.ensures ∙ c.if-says_salvaged.true)
+bit-set : (n : ℕ) → n < 4 → bit_or n 2 ≡ marked n
+unfolding marked says_salvaged
+bit-set zero h = refl
+bit-set (suc zero) h = refl
+bit-set (suc (suc zero)) h = refl
+bit-set (suc (suc (suc zero))) h = refl
+bit-set (suc (suc (suc (suc n)))) h = absurd (omega arith)
 
 pub returns : goal.returns
-unfolding marked
-returns c = rw (sym c.says_salvaged.ensures ∙ c.if-says_salvaged.false)
+returns c = bit-set c.args.fourth c.requires

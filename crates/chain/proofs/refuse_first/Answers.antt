@@ -2,13 +2,9 @@
 use Prim.Native.Nat.{◌+◌}
 use mathlib.Core.Path.{sym, ◌∙◌}
 use native.Mathlib.Omega.{arith}
-use borrow.Author.Rules.{rules}
 use Rattle.facts.proofs.Chain.{returned, was-faulty, was-faultless}
-use Rattle.facts.proofs.First.{left-all, first-hit, left-next, first-clear}
+use Rattle.facts.proofs.First.{first-hit, left-next, first-clear}
 use Rattle.chain.proofs.refuse_first.Goals as goal
-
-pub loop-i-init : goal.loop-i-init
-loop-i-init g c = λ test same. left-all _ _ _
 
 pub returns-in_err-refuse_if : goal.returns-in_err-refuse_if
 returns-in_err-refuse_if g c = λ test same.

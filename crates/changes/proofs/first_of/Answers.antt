@@ -2,11 +2,8 @@
 use Prim.Native.Nat.{◌+◌}
 use mathlib.Core.Path.{sym, ◌∙◌}
 use native.Mathlib.Omega.{arith}
-use Rattle.changes.proofs.First.{left-all, left-hit, left-next, left-none}
+use Rattle.changes.proofs.First.{left-hit, left-next, left-none}
 use Rattle.changes.proofs.first_of.Goals as goal
-
-pub loop-i-init : goal.loop-i-init
-loop-i-init g c = λ d same. left-all _ _
 
 pub returns-then-is_some : goal.returns-then-is_some
 returns-then-is_some g c = λ d same.

@@ -7,6 +7,6 @@ pub returns-then-says_bus : goal.returns-then-says_bus
 unfolding check_row
 returns-then-says_bus c = rw (sym c.says_bus.ensures ∙ c.if-says_bus.true) c.check_bus.ensures
 
-pub returns : goal.returns
+pub returns-else-says_bus : goal.returns-else-says_bus
 unfolding check_row
-returns c = rw (sym c.says_bus.ensures ∙ c.if-says_bus.false) c.check.ensures
+returns-else-says_bus c = rw (sym c.says_bus.ensures ∙ c.if-says_bus.false) c.check.ensures

@@ -1,11 +1,7 @@
 -- `cycles::act` meets its contract. Assumes nothing.
-use native.Mathlib.Omega.{arith}
 use Rattle.rules.specs.Delays.{act}
 use Rattle.cycles.proofs.act.Goals as goal
 
 pub returns : goal.returns
 unfolding act
 returns c = rw (c.larger.ensures, c.figure-faw.ensures.0, c.figure-rrd.ensures.0)
-
-pub overflow_mul-rrd : goal.overflow_mul-rrd
-overflow_mul-rrd c = omega arith

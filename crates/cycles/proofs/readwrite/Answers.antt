@@ -1,5 +1,4 @@
 -- `cycles::readwrite` meets its contract. Assumes nothing.
-use native.Mathlib.Omega.{arith}
 use Rattle.rules.specs.Delays.{readwrite}
 use Rattle.cycles.proofs.readwrite.Goals as goal
 
@@ -17,24 +16,3 @@ returns c =
       c.figure-wl.ensures.0,
       c.figure-cl.ensures.0,
     )
-
-pub overflow_add-cl : goal.overflow_add-cl
-overflow_add-cl c = omega arith
-
-pub overflow_add-cl-2 : goal.overflow_add-cl-2
-overflow_add-cl-2 c = omega arith
-
-pub overflow_add-wl : goal.overflow_add-wl
-overflow_add-wl c = omega arith
-
-pub overflow_add-wl-2 : goal.overflow_add-wl-2
-overflow_add-wl-2 c = omega arith
-
-pub overflow_add-cl-3 : goal.overflow_add-cl-3
-overflow_add-cl-3 c = omega arith
-
-pub overflow_add-cl-4 : goal.overflow_add-cl-4
-overflow_add-cl-4 c = omega arith
-
-pub overflow_add-half : goal.overflow_add-half
-overflow_add-half c = omega arith

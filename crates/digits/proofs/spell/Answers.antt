@@ -23,9 +23,3 @@ returns c =
 
 pub loop-m-init : goal.loop-m-init
 loop-m-init c = (search rules, c.requires, search rules, spell_none c.args.n c.args.d.now 19 c.requires)
-
-pub overflow_sub-i : goal.overflow_sub-i
-overflow_sub-i c = place_before c.loop-m.m c.loop-m.i (omega arith) c.loop-m.invariant.2
-
-pub shape_of-d : goal.shape_of-d
-shape_of-d c = simp length-set (omega arith)

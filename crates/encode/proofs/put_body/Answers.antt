@@ -6,10 +6,10 @@ use borrow.Author.Rules.{rules}
 use lib.ListN.{length}
 use Rattle.places.proofs.Places.{sets-limit, after-sets}
 use Rattle.encode.proofs.Stores.{body_stores}
-use Rattle.encode.proofs.put_body.Goals.{After-timing-2-1}
+use Rattle.encode.proofs.put_body.Goals.{Start}
 use Rattle.encode.proofs.put_body.Goals as goal
 
-arrays : (c : After-timing-2-1) → (length c.args.t.timing ≡ 15) × (length c.args.t.sets ≡ 8)
+arrays : (c : Start) → (length c.args.t.timing ≡ 15) × (length c.args.t.sets ≡ 8)
 arrays c = (search rules, search rules)
 
 pub put_counts-requires : goal.put_counts-requires
@@ -20,14 +20,14 @@ put_counts-requires c =
 pub put_figures-requires : goal.put_figures-requires
 put_figures-requires c =
     let t = c.args.t in
-    omega (arith, arrays c, c.put_counts.auto, sets-limit t.fourth, after-sets t.fourth t.cores (t.tasks + 1))
+    omega (arith, arrays (goal.at.put_figures-requires c).Start, c.put_counts.auto, sets-limit t.fourth, after-sets t.fourth t.cores (t.tasks + 1))
 
 pub put_figures-requires-2 : goal.put_figures-requires-2
 put_figures-requires-2 c =
     let t = c.args.t in
-    omega (arith, arrays (goal.at.put_figures-requires-2 c).After-timing-2-1, c.put_counts.auto, c.put_figures.auto, c.sets_at.ensures, c.size.ensures, after-sets t.fourth t.cores (t.tasks + 1))
+    omega (arith, arrays (goal.at.put_figures-requires-2 c).Start, c.put_counts.auto, c.put_figures.auto, c.sets_at.ensures, c.size.ensures, after-sets t.fourth t.cores (t.tasks + 1))
 
 pub returns : goal.returns
 returns c =
     rw (c.put_tasks.ensures, c.put_figures-2.ensures, c.size.ensures.value, c.sets_at.ensures.value, c.put_figures.ensures, c.put_counts.ensures)
-    (body_stores c.args.t (arrays (goal.at.returns c).After-timing-2-1).0 (arrays (goal.at.returns c).After-timing-2-1).1 (search rules) c.args.out.now)
+    (body_stores c.args.t (arrays (goal.at.returns c).Start).0 (arrays (goal.at.returns c).Start).1 (search rules) c.args.out.now)

@@ -1,5 +1,4 @@
 -- A run of figures, stored place by place. Assumes nothing.
-use mathlib.Core.Path.{◌≡◌}
 use native.Mathlib.Omega.{arith}
 use borrow.Author.Rules.{rules}
 use Rattle.laws.specs.Idioms.{bytes_of}
@@ -11,7 +10,4 @@ pub loop-i-preserved : goal.loop-i-preserved
 loop-i-preserved c =
     let l = c.loop-i in
     let a = c.args in
-    (search rules, search rules, rw (c.put.ensures, l.invariant.2) (store_next (bytes_of 2) 2 (bytes-length 2) a.out.now a.at a.figures.now l.i 0 (omega arith)))
-
-pub returns : goal.returns
-returns c = let e : c.loop-i.i ≡ c.args.n = omega arith in rw e at c.loop-i.invariant.2
+    (search rules, rw (c.put.ensures, c.from.ensures, l.invariant.1) (store_next (bytes_of 2) 2 (bytes-length 2) a.out.now a.at a.figures.now l.i 0 (omega arith)))

@@ -7,8 +7,8 @@ pub returns : goal.returns
 unfolding hit
 returns c = (
   rw (
-    c.most-2.ensures,
-    c.most.ensures,
+    c.max-2.ensures,
+    c.max.ensures,
     c.figure-4.ensures.0,
     c.figure-3.ensures.0,
     c.figure-2.ensures.0,
@@ -17,15 +17,3 @@ returns c = (
   ),
   omega arith,
 )
-
-pub overflow_add-read : goal.overflow_add-read
-overflow_add-read c = omega arith
-
-pub overflow_add-read-2 : goal.overflow_add-read-2
-overflow_add-read-2 c = omega arith
-
-pub overflow_add-write : goal.overflow_add-write
-overflow_add-write c = omega arith
-
-pub overflow_add-write-2 : goal.overflow_add-write-2
-overflow_add-write-2 c = omega arith

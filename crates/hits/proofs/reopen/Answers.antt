@@ -1,11 +1,7 @@
 -- `hits::reopen` meets its contract. Assumes nothing.
-use native.Mathlib.Omega.{arith}
 use Rattle.rules.specs.Delays.{reopen}
 use Rattle.hits.proofs.reopen.Goals as goal
 
 pub returns : goal.returns
 unfolding reopen
 returns c = rw (c.figure-2.ensures.0, c.figure.ensures.0)
-
-pub overflow_add-result : goal.overflow_add-result
-overflow_add-result c = omega arith

@@ -15,4 +15,4 @@ pub returns-else-cap-eq65535 : goal.returns-else-cap-eq65535
 unfolding window
 returns-else-cap-eq65535 c =
     simp (ne_eqb _ unknown (λ e. c.if-cap-eq65535.false (c.figure-cap.ensures.0 ∙ e)))
-    (rw (c.least.ensures, c.quotient-bursts.ensures, c.figure.ensures.0, c.figure-2.ensures.0, c.figure-cap.ensures.0))
+    (rw (c.min.ensures, c.quotient-bursts.ensures, c.figure.ensures.0, c.figure-2.ensures.0, c.figure-cap.ensures.0))

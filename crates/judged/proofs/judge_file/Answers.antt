@@ -1,39 +1,46 @@
 -- `judge_file` meets its contract. Assumes nothing.
-use mathlib.Core.Path.{◌≡◌, ap, ◌∙◌}
+use mathlib.Core.Path.{◌≡◌, ap, sym, ◌∙◌}
 use mathlib.Core.Bool.{true}
+use mathlib.Core.List.{List}
+use Prim.Native.Nat.{ℕ}
 use native.Mathlib.Omega.{arith}
-use Rattle.rules.specs.Chain.{is_accepted}
+use Rattle.std.specs.Prelude.{Result}
+use Rattle.rules.specs.declared.Answer.{Answer}
+use Rattle.rules.specs.declared.Refusal.{Refusal}
+use Rattle.rules.specs.Chain.{is_accepted, granted}
 use Rattle.rules.specs.File.{decode}
 use Rattle.rules.specs.Operations.{check_to_judge, judge_all}
-use Rattle.facts.proofs.Chain.{passes}
+use Rattle.facts.proofs.Chain.{was-allowed}
 use Rattle.facts.proofs.ToJudge.{judged_file}
 use Rattle.file.proofs.Reading.{file_sized, file_counts}
-use Rattle.judged.proofs.Judging.{lent_starts, file_refused, all-judged}
-use Rattle.judged.proofs.judge_file.Goals.{After-all_starts, After-by-1}
+use Rattle.judged.proofs.Judging.{file_refused, all-judged}
+use Rattle.judged.proofs.judge_file.Goals.{In_ok-check}
 use Rattle.judged.proofs.judge_file.Goals as goal
 
-accepts : (c : After-all_starts) → is_accepted (check_to_judge c.args.file.now) ≡ true
-accepts c = passes c.check-refusal.ensures c.if-refusal-ne0.false
+-- what the judgement of a file from some starts answers
+abbrev given : List ℕ → List ℕ → Result (List Answer) Refusal
+given s starts = granted (judge_all (decode s) starts).refusal (judge_all (decode s) starts).answers
 
-gave : (c : After-by-1) → let a = c.args in c.judge_accepted-judged.result ≡ judge_all (decode a.file.now) (lent_starts a.file.now a.starts.now)
-gave c = c.judge_accepted-judged.ensures ∙ ap (judge_all (decode c.args.file.now)) c.all_starts.ensures
+accepts : (c : In_ok-check) → is_accepted (check_to_judge c.args.file.now) ≡ true
+accepts c = (was-allowed _ _ (sym c.in_ok-check.ensures)).0
 
-pub returns-then-refusal-ne0 : goal.returns-then-refusal-ne0
-returns-then-refusal-ne0 c =
-    let h = file_refused _ _ c.check-refusal.ensures c.if-refusal-ne0.true in
+pub returns-in_err-check : goal.returns-in_err-check
+returns-in_err-check c =
+    let h = file_refused _ _ c.in_err-check.ensures c.from_residual.ensures.1 in
     record { value = h.0; judged_file = h.1 }
 
-pub store-requires : goal.store-requires
-store-requires c = rw c.size.ensures.value (file_counts _ (judged_file _ (accepts (goal.at.store-requires c).After-all_starts))).1
-
 pub judge_accepted-judged-requires : goal.judge_accepted-judged-requires
-judge_accepted-judged-requires c = accepts c
+judge_accepted-judged-requires c = accepts (goal.at.judge_accepted-judged-requires c).In_ok-check
 
 pub bounds-file-2 : goal.bounds-file-2
-bounds-file-2 c = omega (arith, (file_sized _ (judged_file _ (accepts (goal.at.bounds-file-2 c).After-all_starts))).long)
+bounds-file-2 c = omega (arith, (file_sized _ (judged_file _ (accepts (goal.at.bounds-file-2 c).In_ok-check))).long)
+
+pub store-requires : goal.store-requires
+store-requires c = rw c.from.ensures (file_counts _ (judged_file _ (accepts (goal.at.store-requires c).In_ok-check))).1
 
 pub returns : goal.returns
 returns c =
-    let size = c.size.ensures.value in
-    let h = all-judged _ _ (accepts (goal.at.returns c).After-all_starts) (gave (goal.at.returns c).After-by-1) (rw size at c.store.ensures.value) (rw size at c.store.ensures.stored) in
+    let is = c.judge_accepted-judged.ensures ∙ ap (λ (starts : List ℕ). given c.args.file.now starts) c.all_starts.ensures in
+    let size = c.from.ensures in
+    let h = all-judged _ _ (accepts (goal.at.returns c).In_ok-check) (rw size at c.store.ensures.value _ is) (rw size at c.store.ensures.stored _ is) in
     record { value = h.0; judged_file = h.1 }

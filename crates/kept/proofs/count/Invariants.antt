@@ -1,11 +1,7 @@
 -- The records before the first that is not sound. Assumes nothing.
-use Prim.Native.Nat.{◌-◌, ◌≤◌}
 use Rattle.rules.specs.Salvage.{is_sound}
 use Rattle.kept.proofs.Leading.{Counted}
 use Rattle.kept.proofs.count.Given as goal
 
 abbrev pub invariant-loop-i : goal.invariant-loop-i
-invariant-loop-i l = (l.i ≤ l.promised) × Counted (is_sound l.file) l.promised l.i
-
-abbrev pub decreases-loop-i : goal.decreases-loop-i
-decreases-loop-i l = l.promised - l.i
+invariant-loop-i l = Counted (is_sound l.file) l.promised l.i

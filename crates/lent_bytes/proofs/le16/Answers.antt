@@ -1,14 +1,7 @@
--- The number of two bytes, by its two bytes. Assumes nothing.
-use Prim.Native.Nat.{◌+◌}
-use native.Mathlib.Omega.{arith}
-use Rattle.laws.proofs.Parts.{number-part, number-one}
+-- The number that the library reads out of the chunk. Assumes nothing.
+use mathlib.Core.Path.{◌∙◌}
+use Rattle.lent_bytes.proofs.Numbers.{chunk-number}
 use Rattle.lent_bytes.proofs.le16.Goals as goal
 
-pub overflow_add-result-2 : goal.overflow_add-result-2
-overflow_add-result-2 c = let a = c.args in omega (arith, c.shared_slice_known-2-1.given a.at, c.shared_slice_known-2-1.given (a.at + 1))
-
 pub returns : goal.returns
-returns c =
-    let a = c.args in
-    let s = a.s.now in
-    rw (number-part s a.at 1 1 (omega arith), number-one s a.at (omega arith), number-one s (a.at + 1) (omega arith))
+returns c = c.from_le_bytes.ensures ∙ chunk-number c.args.s.now c.unwrap.result.now c.args.at 1 c.requires (rw c.unwrap.ensures at c.first_chunk.ensures.cases)

@@ -1,9 +1,7 @@
--- The number of four bytes, by its two halves. Assumes nothing.
-use native.Mathlib.Omega.{arith}
-use Rattle.laws.proofs.Parts.{number-part}
+-- The number that the library reads out of the chunk. Assumes nothing.
+use mathlib.Core.Path.{◌∙◌}
+use Rattle.lent_bytes.proofs.Numbers.{chunk-number}
 use Rattle.lent_bytes.proofs.le32.Goals as goal
 
 pub returns : goal.returns
-returns c =
-    let a = c.args in
-    rw (c.le16.ensures, c.le16-2.ensures, number-part a.s.now a.at 2 2 (omega arith))
+returns c = c.from_le_bytes.ensures ∙ chunk-number c.args.s.now c.unwrap.result.now c.args.at 3 c.requires (rw c.unwrap.ensures at c.first_chunk.ensures.cases)

@@ -1,23 +1,12 @@
 -- A count is outside its limits, or the fourth byte has a bit that no table has. Assumes nothing.
-use Prim.Native.Nat.{ℕ}
-use mathlib.Core.Path.{◌≡◌, refl, ◌∙◌}
-use mathlib.Core.Bool.{Bool, true, false, not, ◌&&◌}
-use native.Mathlib.Omega.{arith}
-use lib.Dec.{ltb}
-use borrow.Author.Tests.{lt-ltb, le-ltb, ltb-true, ltb-false}
+use mathlib.Core.Path.{◌≡◌, ◌∙◌}
+use mathlib.Core.Bool.{not, ◌&&◌}
 use Rattle.laws.specs.Idioms.{within}
 use Rattle.rules.specs.Kinds.{fourth_allowed}
 use Rattle.rules.specs.Refusals.{counts_fault}
-use Rattle.chain.proofs.Faults.{one-fault, other_fault}
+use Rattle.chain.proofs.Faults.{one-fault, other_fault, not_less}
 use Rattle.limits.proofs.counts_fault.Goals.{Joined-outside, Joined-outside-2, then-outside, else-outside, then-outside-2, else-outside-2}
 use Rattle.limits.proofs.counts_fault.Goals as goal
-
-above : (x : ℕ) → ltb 3 x ≡ not (ltb x 4)
-above x = go (ltb 3 x) refl
-  where
-    go : (b : Bool) → ltb 3 x ≡ b → b ≡ not (ltb x 4)
-    go true e = let h = ltb-true 3 x e in rw (le-ltb x 4 (omega (arith, h)))
-    go false e = let h = ltb-false 3 x e in rw (lt-ltb x 4 (omega (arith, h)))
 
 two : (c : Joined-outside) → c.if-outside.value ≡ not (within 1 8 c.args.cores && within 1 16 c.args.partitions)
 two c =
@@ -39,4 +28,4 @@ returns-then-outside-3 c = one-fault _ _ (three c.before) c.if-outside-3.true
 
 pub returns-else-outside-3 : goal.returns-else-outside-3
 unfolding counts_fault fourth_allowed
-returns-else-outside-3 c = other_fault _ _ (three c.before) c.if-outside-3.false (above c.args.fourth)
+returns-else-outside-3 c = other_fault _ _ (three c.before) c.if-outside-3.false (not_less 4 c.args.fourth)

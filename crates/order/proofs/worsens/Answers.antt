@@ -1,5 +1,5 @@
 -- A table is worsened where no change is told. Assumes nothing.
-use mathlib.Core.Path.{◌≡◌, refl, sym, ◌∙◌}
+use mathlib.Core.Path.{◌≡◌, refl, ◌∙◌}
 use mathlib.Core.Bool.{Bool, true, false, not}
 use Rattle.order.proofs.Told.{agrees}
 use Rattle.order.proofs.worsens.Goals as goal

@@ -5,4 +5,4 @@ use Rattle.ranges.proofs.all_limits.Goals as goal
 
 pub returns : goal.returns
 unfolding ranges
-returns c = record { same = refl }
+returns c = refl

@@ -7,12 +7,8 @@ use Rattle.rows.proofs.TaskLines.{rows_none, rows_next}
 use Rattle.rows.proofs.put_rows.Goals as goal
 
 pub loop-i-init : goal.loop-i-init
-loop-i-init c = (search rules, search rules, search rules, rw rows_none (nothing _ _))
+loop-i-init c = (search rules, search rules, rw rows_none (nothing _ _))
 
 pub loop-i-preserved : goal.loop-i-preserved
 loop-i-preserved c =
-    (search rules, search rules, omega arith, rw rows_next (c.loop-i.invariant.3 then c.put_row-end.ensures.put))
-
-pub returns : goal.returns
-returns c = let all : c.loop-i.i ≡ c.args.t.tasks = omega arith in
-    record { put = rw all at c.loop-i.invariant.3; upper_bound = omega arith }
+    (search rules, omega arith, rw rows_next (c.loop-i.invariant.2 then c.put_row-end.ensures.put))

@@ -18,26 +18,9 @@ returns c =
     let some : c.args.m ≢ 0 = omega arith in
     simp (ne_eqb _ 0 some)
     (rw (
-      c.less.ensures,
+      c.saturating_sub.ensures,
       c.figure-3.ensures.0,
       c.figure-2.ensures.0,
-      c.times-reads.ensures.0,
       c.figure.ensures.0,
-      c.times-writes.ensures.0,
       c.turn.ensures.0,
     ))
-
-pub overflow_add-m : goal.overflow_add-m
-overflow_add-m c = omega arith
-
-pub times-writes-requires : goal.times-writes-requires
-times-writes-requires c = (omega arith, c.turn.ensures.1)
-
-pub times-reads-requires : goal.times-reads-requires
-times-reads-requires c = (omega arith, omega arith)
-
-pub overflow_add-result : goal.overflow_add-result
-overflow_add-result c = omega arith
-
-pub overflow_add-result-2 : goal.overflow_add-result-2
-overflow_add-result-2 c = omega arith

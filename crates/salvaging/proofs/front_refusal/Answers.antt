@@ -1,41 +1,44 @@
 -- 19, 17, then 5 to 8 and 16. Assumes nothing.
-use mathlib.Core.Path.{◌≡◌, ◌∙◌}
-use mathlib.Core.Bool.{false}
-use Prim.Native.Nat.{◌<◌, ◌≤◌}
+use mathlib.Core.Path.{◌≡◌, sym, ◌∙◌}
 use native.Mathlib.Omega.{arith}
-use lib.ListN.{length}
-use Rattle.rules.specs.Chain.{is_accepted}
+use borrow.Author.Tests.{lt-ltb}
 use Rattle.rules.specs.File.{records_at, cores_in, form_in}
-use Rattle.rules.specs.Operations.{check_file}
-use Rattle.facts.proofs.Chain.{passes, refuses}
+use Rattle.rules.specs.Salvage.{ends_early}
+use Rattle.facts.proofs.Chain.{stops_at, goes_on_to, asked-ok, was-faultless}
+use Rattle.chain.proofs.Walk.{stays}
 use Rattle.places.proofs.Places.{record-place}
-use Rattle.salvaging.proofs.Links.{front-accepted, early, few_bytes, late, front-early, front-board}
-use Rattle.salvaging.proofs.front_refusal.Goals.{Else-check-eq0, Else-file-record_at}
+use Rattle.salvaging.specs.Front.{check_front}
+use Rattle.salvaging.proofs.Links.{few_bytes, reached}
+use Rattle.salvaging.proofs.front_refusal.Goals.{In_ok-refuse_if, After-refuse_if-2, then-file-lt4, else-file-lt4}
 use Rattle.salvaging.proofs.front_refusal.Goals as goal
 
-pub returns-then-check-eq0 : goal.returns-then-check-eq0
-returns-then-check-eq0 c = c.refused.ensures ∙ front-accepted _ (passes c.check.ensures c.if-check-eq0.true)
+pub returns-in_err-refuse_if : goal.returns-in_err-refuse_if
+unfolding check_front
+returns-in_err-refuse_if c =
+    stops_at _ _ _ _ c.from_residual.ensures.1 (stays _ _ _ (rw (sym (asked-ok _ _ c.check.ensures c.is_ok.ensures.value)) at c.in_err-refuse_if.ensures))
 
-not_read : (c : Else-check-eq0) → is_accepted (check_file c.args.file.now) ≡ false
-not_read c = refuses c.check.ensures c.if-check-eq0.false
+-- the test of 17
+looked : (c : After-refuse_if-2) → c.if-file-lt4.ends_early ≡ ends_early c.args.file.now
+unfolding ends_early
+looked c = elim c.if-file-lt4.branch [
+  | then-file-lt4 w ↦ w.ends_early-is ∙ lt-ltb _ _ w.if-file-lt4.true ∙ sym (few_bytes _ w.if-file-lt4.true)
+  | else-file-lt4 w ↦ let s = c.args.file.now in let e : w.record_at.result ≡ records_at (form_in s) (cores_in s) = omega (arith, w.record_at.ensures.value, record-place (form_in s) (cores_in s) 0) in w.ends_early-is ∙ rw e
+]
 
-pub returns-then-file-lt4 : goal.returns-then-file-lt4
-returns-then-file-lt4 c = c.refused-then-file-lt4.ensures ∙ front-early _ (not_read (goal.at.returns-then-file-lt4 c).Else-check-eq0) (few_bytes _ c.if-file-lt4.true)
-
-pub returns-then-file-record_at : goal.returns-then-file-record_at
-returns-then-file-record_at c =
-    let s = c.args.file.now in
-    let ends : length s < records_at (form_in s) (cores_in s) = omega (arith, c.if-file-record_at.true, c.record_at.ensures.value, record-place (form_in s) (cores_in s) 0) in
-    c.refused-then-file-record_at.ensures ∙ front-early _ (not_read (goal.at.returns-then-file-record_at c).Else-check-eq0) (early _ ends)
-
--- the file reaches the end of its sets
-there : (c : Else-file-record_at) → let s = c.args.file.now in records_at (form_in s) (cores_in s) ≤ length s
-there c =
-    let s = c.args.file.now in
-    omega (arith, c.if-file-record_at.false, c.record_at.ensures.value, record-place (form_in s) (cores_in s) 0)
-
-pub returns : goal.returns
-returns c = c.board.ensures ∙ front-board _ (not_read (goal.at.returns c).Else-check-eq0) (late _ (there (goal.at.returns c).Else-file-record_at))
+pub returns-in_err-refuse_if-2 : goal.returns-in_err-refuse_if-2
+unfolding check_front
+returns-in_err-refuse_if-2 c =
+    stops_at _ _ _ _ c.from_residual-in_err-refuse_if-2.ensures.1
+    (goes_on_to _ _ _ (tt {0}) (rw (sym (asked-ok _ _ c.check.ensures c.is_ok.ensures.value)) at c.in_ok-refuse_if.ensures)
+    (rw (looked (goal.at.returns-in_err-refuse_if-2 c).After-refuse_if-2) at c.in_err-refuse_if-2.ensures))
 
 pub board-requires : goal.board-requires
-board-requires c = there c
+board-requires c = reached _ (sym (looked (goal.at.board-requires c).After-refuse_if-2) ∙ was-faultless 17 0 _ (tt {0}) (omega arith) c.in_ok-refuse_if-2.ensures)
+
+pub returns : goal.returns
+unfolding check_front
+returns c =
+    goes_on_to _ _ _ _
+    (goes_on_to _ _ _ (tt {0}) (rw (sym (asked-ok _ _ c.check.ensures c.is_ok.ensures.value)) at c.in_ok-refuse_if.ensures)
+    (rw (looked (goal.at.returns c).After-refuse_if-2) at c.in_ok-refuse_if-2.ensures))
+    c.board.ensures

@@ -1,5 +1,5 @@
 -- The trailer of what stands before it. Assumes nothing.
-use mathlib.Core.Path.{◌≡◌, sym}
+use mathlib.Core.Path.{◌≡◌}
 use native.Mathlib.Omega.{arith}
 use lib.ListN.{length, take}
 use lib.Seq.{length-take-le}
@@ -12,9 +12,3 @@ returns c =
     let front = take a.e a.out.now in
     let long : length front ≡ a.e = length-take-le a.e a.out.now (omega arith) in
     rw (c.put-3.ensures, c.put-2.ensures, c.put.ensures, c.sums-total.ensures) (rw long at (trailer_stores front a.out.now a.e))
-
-pub slice_bounds-sums-end-2 : goal.slice_bounds-sums-end-2
-slice_bounds-sums-end-2 c = let a = c.args in sym (length-take-le a.e a.out.now (omega arith))
-
-pub sums-total-requires : goal.sums-total-requires
-sums-total-requires c = let a = c.args in omega (arith, length-take-le a.e a.out.now (omega arith))

@@ -1,33 +1,20 @@
 -- 1 to 11, then 12. Assumes nothing.
-use mathlib.Core.Path.{◌≡◌, ◌∙◌, sym}
-use mathlib.Core.Bool.{true}
-use mathlib.Core.Logic.{inl, inr}
+use mathlib.Core.Path.{sym}
 use native.Mathlib.Omega.{arith}
-use borrow.Author.Tests.{eq-eqb, ne_eqb}
-use Rattle.rules.specs.Chain.{is_accepted}
-use Rattle.rules.specs.Operations.{check_file}
+use Rattle.rules.specs.Refusals.{asked_fault}
+use Rattle.rules.specs.File.{decode}
+use Rattle.rules.specs.Operations.{check_view}
+use Rattle.facts.proofs.Chain.{stops_at, goes_on_to, was-allowed}
 use Rattle.file.proofs.Reading.{file_sized}
-use Rattle.view.proofs.Viewing.{view-refused, asked_out, asked_in}
-use Rattle.view.proofs.view_refusal.Goals.{Else-refusal-ne0}
 use Rattle.view.proofs.view_refusal.Goals as goal
 
-passed : (c : Else-refusal-ne0) → is_accepted (check_file c.args.file.now) ≡ true
-passed c = rw c.check-refusal.ensures at (eq-eqb _ _ c.if-refusal-ne0.false)
-
-pub returns-then-refusal-ne0 : goal.returns-then-refusal-ne0
-returns-then-refusal-ne0 c =
-    let check = c.check-refusal in
-    check.ensures ∙ sym (view-refused _ _ (rw check.ensures at (ne_eqb _ _ c.if-refusal-ne0.true)))
-
-pub returns-then-file-k : goal.returns-then-file-k
-returns-then-file-k c = c.refused-then-file-k.ensures ∙ sym (asked_out _ _ (passed (goal.at.returns-then-file-k c).Else-refusal-ne0) (inr c.if-file-k.true))
-
-pub returns : goal.returns
-returns c =
-    c.refused-2.ensures ∙ sym (asked_in _ _ (passed (goal.at.returns c).Else-refusal-ne0) c.if-k-lt1.false c.if-file-k.false)
-
-pub returns-then-k-lt1 : goal.returns-then-k-lt1
-returns-then-k-lt1 c = c.refused.ensures ∙ sym (asked_out _ _ (passed (goal.at.returns-then-k-lt1 c).Else-refusal-ne0) (inl c.if-k-lt1.true))
+pub returns-in_err-check : goal.returns-in_err-check
+unfolding check_view
+returns-in_err-check c = stops_at _ _ _ _ c.from_residual.ensures.1 c.in_err-check.ensures
 
 pub bounds-file-2 : goal.bounds-file-2
-bounds-file-2 c = omega (arith, (file_sized _ (passed (goal.at.bounds-file-2 c).Else-refusal-ne0)).long)
+bounds-file-2 c = omega (arith, (file_sized _ (was-allowed _ _ (sym c.in_ok-check.ensures)).0).long)
+
+pub returns : goal.returns
+unfolding check_view asked_fault decode
+returns c = goes_on_to _ _ _ _ c.in_ok-check.ensures (rw (c.outside.ensures, c.from.ensures, c.from-2.ensures) at c.refuse_if.ensures)
