@@ -1,7 +1,7 @@
 // The judgement of one task of an accepted table, and of all: its figures go into lent columns.
 #![tactic(auto)]
 
-ghost use Rattle.std.specs.Prelude.{◌≡◌, true, ◌≤◌, ◌<◌, length, get_or};
+ghost use Rattle.std.specs.Prelude.{◌≡◌, true, ◌≤◌};
 ghost use Rattle.laws.specs.Idioms.{Within};
 ghost use Rattle.facts.specs.Sound.{Sound};
 ghost use Rattle.rules.specs.Tasks as Tasks;
