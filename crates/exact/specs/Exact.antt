@@ -15,7 +15,7 @@ use Rattle.rules.specs.Refusals.{check_timing, check_bus, board_refusal, check_b
 use Rattle.rules.specs.File.{check_whole}
 use Rattle.rules.specs.Operations.{check_file, reading, check_to_judge, read_to_judge, check_view, viewing, judge_one, judge_all}
 use Rattle.rules.specs.Salvage.{salvaging, salvaged_out}
-use Rattle.rules.specs.Listing.{refused_line, table_text, listing, receipt, report}
+use Rattle.rules.specs.Listing.{refused_line, table_text, listing, receipt}
 use Rattle.changes.specs.declared.Change.{Change}
 use Rattle.changes.specs.Difference as Difference
 use Rattle.starts.specs.Starts.{in_picos}
@@ -25,7 +25,8 @@ use Rattle.text.specs.Put.{Given}
 use Rattle.plain.specs.Codes.{code_of, salvage_code}
 use Rattle.judged.specs.JudgedFile.{check_judged_file, JudgedFile}
 use Rattle.recarry.specs.Files.{carry_refusal, granted_carry, refusal_carried, carry_code, CarriedFiles, files_worsen}
-use Rattle.salvaging.specs.Front.{salvaged_by, Salvages}
+use Rattle.salvaging.specs.Front.{Salvages}
+use Rattle.report.specs.Counts.{reported}
 use Rattle.reasons.specs.Reasons.{reason_text}
 use Rattle.pieces.specs.Pieces.{piece_of}
 use Rattle.shown.specs.Shown.{task_count, record_place}
@@ -84,7 +85,7 @@ pub record Promises : Type 0 where
   pub receipt-line : (s out : List ℕ) → Exact (λ (r : ℕ × List ℕ). Given (receipt s) out r.0 r.1)
   pub receipt-status : (s : List ℕ) → Exact (λ (r : ℕ). r ≡ receipt_status s)
   -- report
-  pub report-line : (answered : Result Salvage Refusal) (out : List ℕ) → Exact (λ (r : ℕ × List ℕ). Given (report (salvaged_by answered)) out r.0 r.1)
+  pub report-line : (answered : Result Salvage Refusal) (out : List ℕ) → Exact (λ (r : ℕ × List ℕ). Given (reported answered) out r.0 r.1)
   -- status
   pub of_file : (s : List ℕ) → Exact (λ (r : ℕ). r ≡ file_status s)
   -- judged
