@@ -13,6 +13,7 @@ fn show(rt: HostRuntime, from: Source, file: &[u8]) -> Result<u8, Failed> {
     Ok(status::of_file(file))
 }
 
+// As in whole: one function for both would take what comes after by a closure, and be no shorter.
 fn list(rt: HostRuntime, from: Source) -> Result<u8, Failed> {
     let mut file = [0u8; 7952];
     let n = console::load(rt, b"list: ", from, &mut file)?;

@@ -30,7 +30,8 @@ fn short(n: usize, bounds: usize, rounds: usize, by: usize) -> bool
     bounds < n || rounds < n || by < n
 }
 
-// Each answer in its place of each output; where an output is too short for them, 255, and nothing changes.
+// Each answer in its place of each output; where an output is too short for them, 255, and nothing changes. C lends the three by themselves, and `Stored`
+// speaks of three lists, so they are no struct.
 pub fn store_answers(
     answers: &[Answer],
     bounds: &mut [u64],

@@ -13,6 +13,7 @@ fn show(rt: HostRuntime, from: Source, file: &[u8]) -> Result<u8, Failed> {
     Ok(receipt::status(file))
 }
 
+// As in list: one function for both would take what comes after by a closure, and be no shorter.
 fn ask(rt: HostRuntime, from: Source) -> Result<u8, Failed> {
     let mut file = [0u8; 7952];
     let n = console::load(rt, b"whole: ", from, &mut file)?;
