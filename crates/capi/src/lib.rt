@@ -96,10 +96,7 @@ pub extern "C" fn ryb_carry(
 pub extern "C" fn ryb_worsens(older: &[u8], newer: &[u8]) -> u8
     ensures { result ≡ cond (files_worsen older.now newer.now) 1 0 }
 {
-    if recarry::worsens_files(older, newer) {
-        return 1;
-    }
-    0
+    u8::from(recarry::worsens_files(older, newer))
 }
 
 // Takes back what is whole of a cut table file, as a new one. A refusal changes nothing.

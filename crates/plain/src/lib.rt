@@ -14,10 +14,10 @@ pub fn code(answered: Result<(), Refusal>) -> u16
     ensures { result ≡ code_of (refusal_of answered) }
 {
     match answered {
-        Err(refusal) if refusal.number != 0 => {
-            (refusal.number as u16) + 256 * (refusal.place as u16)
-        }
-        _ => 0,
+        Ok(()) => 0,
+        // no check gives such a refusal
+        Err(refusal) if refusal.number == 0 => 0,
+        Err(refusal) => (refusal.number as u16) + 256 * (refusal.place as u16),
     }
 }
 
