@@ -43,7 +43,7 @@ pub fn put_body(out: &mut [u8], t: Table)
     put_figures(
         out,
         places::sets_at(t.fourth),
-        &t.sets[..places::size(t.cores)],
+        &t.sets[..usize::from(t.cores)],
     );
     records::put_tasks(out, t);
 }

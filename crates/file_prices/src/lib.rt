@@ -6,6 +6,7 @@ ghost use Rattle.rules.specs.Chain.{is_accepted};
 ghost use Rattle.rules.specs.File.{decode};
 ghost use Rattle.rules.specs.Operations.{check_file};
 
+use places::Header;
 use rules::Task;
 use table_columns::Source;
 
@@ -22,15 +23,15 @@ impl<'a> Source for Accepted<'a> {
     ghost table = { λ s. decode s.file.now };
 
     fn tasks(&self) -> usize {
-        places::size(self.file[2])
+        usize::from(Header::of(self.file).tasks)
     }
 
     fn cores(&self) -> usize {
-        places::size(self.file[0])
+        usize::from(Header::of(self.file).cores)
     }
 
     fn fourth(&self) -> u8 {
-        self.file[3]
+        Header::of(self.file).form
     }
 
     fn sets(&self) -> [u16; 8] {

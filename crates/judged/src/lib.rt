@@ -5,6 +5,7 @@ ghost use Rattle.std.specs.Prelude.{◌≡◌};
 ghost use Rattle.rules.specs.Chain.{granted};
 ghost use Rattle.judged.specs.JudgedFile.{check_judged_file, JudgedFile};
 
+use places::Header;
 use rules::Refusal;
 
 // 1 to 11, 16, 18, 13 and 14, then 255 where an output has fewer places than the file has tasks; or every task's answer. A refusal changes nothing.
@@ -20,5 +21,6 @@ pub fn judge_file(
 {
     admit_file::check(file)?;
     let judged = verdicts::judge_accepted(file, plain::all_starts(starts));
-    outcome::store(judged, usize::from(file[2]), bounds, rounds, by)
+    let tasks = Header::of(file).tasks;
+    outcome::store(judged, usize::from(tasks), bounds, rounds, by)
 }

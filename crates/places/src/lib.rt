@@ -1,7 +1,7 @@
 // Where the parts of a table file stand, and how long it is, by its header's bytes.
 #![tactic(auto)]
 
-ghost use Rattle.std.specs.Prelude.{◌≡◌, ◌+◌, ◌<◌, ◌≤◌, length};
+ghost use Rattle.std.specs.Prelude.{◌≡◌, ◌+◌, ◌≤◌, length};
 ghost use Rattle.rules.specs.File.{sets_at, record_size, record_at, file_length};
 ghost use Rattle.places.specs.Header.{header_in};
 
@@ -29,14 +29,6 @@ impl Header {
     }
 }
 
-// A count as a size.
-pub fn size(x: u8) -> usize
-    ensures value { result ≡ x }
-    ensures upper_bound { result < 256 }
-{
-    usize::from(x)
-}
-
 // RULES 7.1: the bytes before the sets.
 pub fn sets_at(form: u8) -> usize
     ensures value { result ≡ sets_at form }
@@ -59,7 +51,7 @@ pub fn record_at(form: u8, cores: u8, i: usize) -> usize
     ensures value { result ≡ record_at form cores (i + 1) }
     ensures upper_bound { result ≤ 16894 }
 {
-    sets_at(form) + 2 * size(cores) + record_size(form) * i
+    sets_at(form) + 2 * usize::from(cores) + record_size(form) * i
 }
 
 // RULES 7.2: the trailer's 12 bytes stand where one record more would start.
@@ -67,5 +59,5 @@ pub fn file_length(form: u8, cores: u8, tasks: u8) -> usize
     ensures value { result ≡ file_length form cores tasks }
     ensures upper_bound { result ≤ 16906 }
 {
-    record_at(form, cores, size(tasks)) + 12
+    record_at(form, cores, usize::from(tasks)) + 12
 }

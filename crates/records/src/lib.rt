@@ -27,7 +27,7 @@ pub fn put_tasks(out: &mut [u8], t: Table)
     requires tasks_in_bounds { record_at t.fourth t.cores (t.tasks + 1) ≤ length out.old }
     ensures { out.new ≡ sets out.old (records_at t.fourth t.cores) (joined (map (record_bytes t.fourth) (tasks_of t))) }
 {
-    for i in 0..places::size(t.tasks) {
+    for i in 0..usize::from(t.tasks) {
         put_task(
             out,
             places::record_at(t.fourth, t.cores, i),

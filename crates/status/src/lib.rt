@@ -4,6 +4,7 @@
 ghost use Rattle.std.specs.Prelude.{◌≡◌, cond, ◌≤◌};
 ghost use Rattle.status.specs.Status.{all_hold, file_status};
 
+use places::Header;
 use rules::Answer;
 
 // Of a file's answers: 0 where every task holds, 1 where one misses.
@@ -28,5 +29,5 @@ pub fn of_file(file: &[u8]) -> u8
         return 2;
     }
     let answers = verdicts::judge_accepted(file, [0; 32]).unwrap();
-    of_answers(file[2], answers)
+    of_answers(Header::of(file).tasks, answers)
 }

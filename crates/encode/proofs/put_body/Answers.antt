@@ -25,9 +25,9 @@ put_figures-requires c =
 pub put_figures-requires-2 : goal.put_figures-requires-2
 put_figures-requires-2 c =
     let t = c.args.t in
-    omega (arith, arrays (goal.at.put_figures-requires-2 c).Start, c.put_counts.auto, c.put_figures.auto, c.sets_at.ensures, c.size.ensures, after-sets t.fourth t.cores (t.tasks + 1))
+    omega (arith, arrays (goal.at.put_figures-requires-2 c).Start, c.put_counts.auto, c.put_figures.auto, c.sets_at.ensures, c.from.ensures, after-sets t.fourth t.cores (t.tasks + 1))
 
 pub returns : goal.returns
 returns c =
-    rw (c.put_tasks.ensures, c.put_figures-2.ensures, c.size.ensures.value, c.sets_at.ensures.value, c.put_figures.ensures, c.put_counts.ensures)
+    rw (c.put_tasks.ensures, c.put_figures-2.ensures, c.from.ensures, c.sets_at.ensures.value, c.put_figures.ensures, c.put_counts.ensures)
     (body_stores c.args.t (arrays (goal.at.returns c).Start).0 (arrays (goal.at.returns c).Start).1 (search rules) c.args.out.now)

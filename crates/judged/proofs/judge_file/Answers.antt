@@ -32,15 +32,15 @@ returns-in_err-check c =
 pub judge_accepted-judged-requires : goal.judge_accepted-judged-requires
 judge_accepted-judged-requires c = accepts (goal.at.judge_accepted-judged-requires c).In_ok-check
 
-pub bounds-file-2 : goal.bounds-file-2
-bounds-file-2 c = omega (arith, (file_sized _ (judged_file _ (accepts (goal.at.bounds-file-2 c).In_ok-check))).long)
+pub of-tasks-requires : goal.of-tasks-requires
+of-tasks-requires c = omega (arith, (file_sized _ (judged_file _ (accepts (goal.at.of-tasks-requires c).In_ok-check))).long)
 
 pub store-requires : goal.store-requires
-store-requires c = rw c.from.ensures (file_counts _ (judged_file _ (accepts (goal.at.store-requires c).In_ok-check))).1
+store-requires c = rw (c.from.ensures, c.of-tasks.ensures) (file_counts _ (judged_file _ (accepts (goal.at.store-requires c).In_ok-check))).1
 
 pub returns : goal.returns
 returns c =
     let is = c.judge_accepted-judged.ensures ∙ ap (λ (starts : List ℕ). given c.args.file.now starts) c.all_starts.ensures in
     let size = c.from.ensures in
-    let h = all-judged _ _ (accepts (goal.at.returns c).In_ok-check) (rw size at c.store.ensures.value _ is) (rw size at c.store.ensures.stored _ is) in
+    let h = all-judged _ _ (accepts (goal.at.returns c).In_ok-check) (rw (size, c.of-tasks.ensures) at c.store.ensures.value _ is) (rw (size, c.of-tasks.ensures) at c.store.ensures.stored _ is) in
     record { value = h.0; judged_file = h.1 }

@@ -4,4 +4,4 @@ use Rattle.places.proofs.Places.{length_is}
 use Rattle.places.proofs.file_length.Goals as goal
 
 pub returns : goal.returns
-returns c = record { value = rw (c.record_at.ensures.value, c.size.ensures.value, length_is); upper_bound = search rules }
+returns c = record { value = rw (c.record_at.ensures.value, c.from.ensures, length_is); upper_bound = search rules }

@@ -27,15 +27,15 @@ unwrap-answers-requires c =
     let passed = accepts (goal.at.unwrap-answers-requires c).Else-is_err in
     rw (c.judge_accepted.ensures ∙ fresh_given (decode c.args.file.now) (judged-table _ passed)) refl
 
-pub bounds-file-2 : goal.bounds-file-2
-bounds-file-2 c = omega (arith, (file_sized _ (judged_file _ (accepts (goal.at.bounds-file-2 c).Else-is_err))).long)
+pub of-requires : goal.of-requires
+of-requires c = omega (arith, (file_sized _ (judged_file _ (accepts (goal.at.of-requires c).Else-is_err))).long)
 
 pub of_answers-requires : goal.of_answers-requires
-of_answers-requires c = (file_counts _ (judged_file _ (accepts (goal.at.of_answers-requires c).Else-is_err))).1
+of_answers-requires c = rw c.of.ensures (file_counts _ (judged_file _ (accepts (goal.at.of_answers-requires c).Else-is_err))).1
 
 pub returns : goal.returns
 returns c =
     let file = c.args.file.now in
     let passed = accepts (goal.at.returns c).Else-is_err in
     let are : c.unwrap-answers.result ≡ (judge_all (decode file) fresh_starts).answers = cc (c.judge_accepted.ensures ∙ fresh_given (decode file) (judged-table _ passed)) in
-    (rw are at c.of_answers.ensures) ∙ sym (status_accepted _ passed)
+    (rw (are, c.of.ensures) at c.of_answers.ensures) ∙ sym (status_accepted _ passed)
