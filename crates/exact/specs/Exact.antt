@@ -15,7 +15,8 @@ use Rattle.rules.specs.Refusals.{check_timing, check_bus, board_refusal, check_b
 use Rattle.rules.specs.File.{check_whole}
 use Rattle.rules.specs.Operations.{check_file, reading, check_to_judge, read_to_judge, check_view, viewing, judge_one, judge_all}
 use Rattle.rules.specs.Salvage.{salvaging, salvaged_out}
-use Rattle.rules.specs.Listing.{refused_line, table_text, listing, receipt}
+use Rattle.rules.specs.Listing.{refused_line, table_text, listing, receipt, report}
+use Rattle.rules.specs.Results.{Salvaged, counts_of}
 use Rattle.changes.specs.declared.Change.{Change}
 use Rattle.changes.specs.Difference as Difference
 use Rattle.starts.specs.Starts.{in_picos}
@@ -85,7 +86,9 @@ pub record Promises : Type 0 where
   pub receipt-line : (s out : List ℕ) → Exact (λ (r : ℕ × List ℕ). Given (receipt s) out r.0 r.1)
   pub receipt-status : (s : List ℕ) → Exact (λ (r : ℕ). r ≡ receipt_status s)
   -- report
-  pub report-line : (answered : Result Salvage Refusal) (out : List ℕ) → Exact (λ (r : ℕ × List ℕ). Given (reported answered) out r.0 r.1)
+  pub report-line : (r : Salvaged) (answered : Result Salvage Refusal) → answered ≡ granted r.refusal (counts_of r)
+      → (out : List ℕ) → Exact (λ (x : ℕ × List ℕ). Given (report r) out x.0 x.1)
+  pub reported-line : (answered : Result Salvage Refusal) (out : List ℕ) → Exact (λ (x : ℕ × List ℕ). Given (reported answered) out x.0 x.1)
   -- status
   pub of_file : (s : List ℕ) → Exact (λ (r : ℕ). r ≡ file_status s)
   -- judged

@@ -1,7 +1,7 @@
 // How often a task is released in a time: how many periods begin in it.
 #![tactic(auto)]
 
-ghost use Rattle.std.specs.Prelude.{◌^◌, ◌≤◌};
+ghost use Rattle.std.specs.Prelude.{◌≡◌, ◌^◌, ◌≤◌};
 ghost use Rattle.laws.specs.Idioms.{Within};
 ghost use Rattle.releases.specs.Releases.{Counted};
 
@@ -26,11 +26,19 @@ impl Model for Inverse {
 impl Inverse {
     pub const NONE: Inverse = Inverse(0);
 
+    // Any number that is not too large.
+    pub fn new(inverse: u64) -> Inverse
+        requires { inverse ≤ 2882303762 }
+        ensures { result ≡ inverse }
+    {
+        Inverse(inverse)
+    }
+
     fn of(period: u64) -> Inverse {
         if period < 100000000 {
             return Inverse::NONE;
         }
-        Inverse(288230376151711744 / period)
+        Inverse::new(288230376151711744 / period)
     }
 }
 
@@ -42,7 +50,7 @@ fn divided(t: u64, period: u64) -> u64
     (t + (period - 1)) / period
 }
 
-// Those of the first n periods. The places are lent, so that they are not copied.
+// Those of the first n periods. The places are lent, so that they are not copied. That none is too large is their type's promise.
 pub fn inverses(n: usize, periods: &[u64; 33], out: &mut [Inverse; 33])
     requires { n ≤ 33 }
 {
