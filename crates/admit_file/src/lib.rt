@@ -22,7 +22,7 @@ pub fn check(file: &[u8]) -> Result<(), Refusal>
 pub fn read(file: &[u8]) -> Result<Table, Refusal>
     ensures { result ≡ granted (read_to_judge file.now).refusal (read_to_judge file.now).table }
 {
-    let table = file::read(file)?;
-    refuse_if(says_salvaged(table.fourth), 18, 0)?;
-    Ok(table)
+    check(file)?;
+    let header = Header::of(file);
+    Ok(contents::table(file, header.form, header.tasks))
 }

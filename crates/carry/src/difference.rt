@@ -6,7 +6,7 @@ use std::fmt;
 // One of two bus tables, or of two of a DRAM.
 #[derive(Clone, Copy)]
 pub struct Difference {
-    pub change: Change,
+    pub change: Change<Figure>,
     pub bus: bool,
 }
 

@@ -16,37 +16,37 @@ use Rattle.changes.specs.declared.Change.{Change}
 
 -- the first, unless it is none
 infixl 20 ◌or_else◌
-unfoldable pub ◌or_else◌ : Option Change → Option Change → Option Change
+unfoldable pub ◌or_else◌ : {A : Type 0} → Option A → Option A → Option A
 a or_else b = option_or a b
 
 -- the first of n places from k on, and of places 1 to n
-unfoldable pub first_from : (ℕ → Option Change) → ℕ → ℕ → Option Change
+unfoldable pub first_from : {A : Type 0} → (ℕ → Option A) → ℕ → ℕ → Option A
 first_from d k zero = None
 first_from d k (suc n) = d k or_else first_from d (k + 1) n
 
-abbrev pub first_of : (ℕ → Option Change) → ℕ → Option Change
+abbrev pub first_of : {A : Type 0} → (ℕ → Option A) → ℕ → Option A
 first_of d n = first_from d 1 n
 
 -- a figure at fault, unless it is fine
-abbrev pub unless : Bool → Figure → ℕ → ℕ → ℕ → Option Change
+abbrev pub unless : {W : Type 0} → Bool → W → ℕ → ℕ → ℕ → Option (Change W)
 unless fine what place was is = cond fine None (Some (record { what = what; place = place; was = was; is = is }))
 
 -- one that must stay as it was; one that may not get lower; one that may not get longer
-abbrev pub unequal : Figure → ℕ → ℕ → ℕ → Option Change
+abbrev pub unequal : {W : Type 0} → W → ℕ → ℕ → ℕ → Option (Change W)
 unequal what place was is = unless (eqb was is) what place was is
 
-abbrev pub lower : Figure → ℕ → ℕ → ℕ → Option Change
+abbrev pub lower : {W : Type 0} → W → ℕ → ℕ → ℕ → Option (Change W)
 lower what place was is = unless (leb was is) what place was is
 
-abbrev pub longer : Figure → ℕ → ℕ → ℕ → Option Change
+abbrev pub longer : {W : Type 0} → W → ℕ → ℕ → ℕ → Option (Change W)
 longer what place was is = unless (leb is was) what place was is
 
 -- the first of places 1 to n at which two lists are not equal
-unfoldable pub unlike : Figure → ℕ → List ℕ → List ℕ → Option Change
+unfoldable pub unlike : {W : Type 0} → W → ℕ → List ℕ → List ℕ → Option (Change W)
 unlike what n a b = first_of (λ k. unequal what k (entry 0 a k) (entry 0 b k)) n
 
 -- the counts and the fourth byte
-unfoldable pub counts_difference : Table → Table → Option Change
+unfoldable pub counts_difference : Table → Table → Option (Change Figure)
 counts_difference older newer =
     unequal Cores 0 older.cores newer.cores
     or_else unequal Partitions 0 older.partitions newer.partitions
@@ -54,14 +54,14 @@ counts_difference older newer =
     or_else unequal Fourth 0 older.fourth newer.fourth
 
 -- and then the timing figures and the sets of the cores
-unfoldable pub board_difference : Table → Table → Option Change
+unfoldable pub board_difference : Table → Table → Option (Change Figure)
 board_difference older newer =
     counts_difference older newer
     or_else unlike Timing 15 older.timing newer.timing
     or_else unlike Set older.cores older.sets newer.sets
 
 -- of task number k, which was i and is j
-unfoldable pub task_difference : ℕ → Task → Task → Option Change
+unfoldable pub task_difference : ℕ → Task → Task → Option (Change Figure)
 task_difference k i j =
     unequal Core k i.core j.core
     or_else unequal Deadline k (D i) (D j)
@@ -70,8 +70,8 @@ task_difference k i j =
     or_else longer Period k (T i) (T j)
 
 -- of the first task at fault
-unfoldable pub tasks_difference : Table → Table → Option Change
+unfoldable pub tasks_difference : Table → Table → Option (Change Figure)
 tasks_difference older newer = first_of (λ k. task_difference k (task_of older k) (task_of newer k)) older.tasks
 
-unfoldable pub difference : Table → Table → Option Change
+unfoldable pub difference : Table → Table → Option (Change Figure)
 difference older newer = board_difference older newer or_else tasks_difference older newer

@@ -9,7 +9,7 @@ ghost use Rattle.std.specs.Prelude.{◌≤◌, length};
 use console::{Failed, Source};
 use lent_bytes::front;
 use lines::{put_answer, put_fields, put_part, refused, word};
-use rules::{Answer, Refusal, Rejudgement, Salvage, Table, Verdict};
+use rules::{Answer, Refusal, Rejudgement, Salvage, Table};
 use std::io;
 
 // L: what is listed of a file.
@@ -133,13 +133,7 @@ fn judge_one(rt: HostRuntime, payload: &[u8]) -> io::Result<()> {
     }
 }
 
-// What stands in the place of answers where nothing is judged: misses in 0 rounds.
-const NONE: [Answer; 32] = [Answer {
-    verdict: Verdict::Misses,
-    rounds: 0,
-}; 32];
-
-// A word and the answers, or the refusal and none.
+// A word and the answers, or the refusal and no answers, which are misses in 0 rounds.
 fn put_answers(
     rt: HostRuntime,
     how: &[u8],
@@ -152,7 +146,7 @@ fn put_answers(
         }
         Err(refusal) => {
             refused(rt, refusal)?;
-            put_fields(rt, NONE)
+            put_fields(rt, unjudged::no_answers())
         }
     }
 }
@@ -186,7 +180,7 @@ fn judge_again(rt: HostRuntime, payload: &[u8]) -> io::Result<()> {
 
 // T: a table passed directly, judged and listed.
 fn list_raw(rt: HostRuntime, payload: &[u8]) -> io::Result<()> {
-    let answers = judged(payload).unwrap_or(NONE);
+    let answers = judged(payload).unwrap_or(unjudged::no_answers());
     let mut out = [0u8; 3266];
     let n = listing::lines(raw::table(payload, 256), answers, &mut out);
     word(rt, front(&out, n))

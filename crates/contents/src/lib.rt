@@ -1,7 +1,7 @@
 // What a table file holds, as far as it reaches: whether its board is one, and the table of its first records. Nothing is said of its trailer.
 #![tactic(auto)]
 
-ghost use Rattle.std.specs.Prelude.{◌≡◌, ◌+◌, ◌≤◌, length};
+ghost use Rattle.std.specs.Prelude.{◌≡◌, ◌+◌, ◌≤◌, length, replicate};
 ghost use Rattle.laws.specs.Idioms.{filled};
 ghost use Rattle.rules.specs.Chain.{granted};
 ghost use Rattle.rules.specs.Tasks.{no_task};
@@ -30,18 +30,16 @@ pub fn board(file: &[u8]) -> Result<(), Refusal>
     )
 }
 
-// The tasks of the first n records, and no task in the other places. The loop is as short as a call of one function for it and `fields::figures` would be.
-fn tasks(file: &[u8], n: usize) -> [Task; 32]
+// The tasks of the first n records into places of which none has a task yet. They are lent, so that the tasks are not copied.
+fn put_tasks(file: &[u8], n: usize, all: &mut [Task; 32])
     requires n_bound { n ≤ 32 }
     requires n_in_bounds { record_at (form_in file.now) (cores_in file.now) (n + 1) ≤ length file.now }
-    ensures { result ≡ filled 32 no_task (tasks_to file.now n) }
+    requires none { all.old ≡ replicate 32 no_task }
+    ensures { all.new ≡ filled 32 no_task (tasks_to file.now n) }
 {
-    let none = tasks::no_task();
-    let mut all = [none; 32];
     for i in 0..n {
         all[i] = fields::record_task(file, i);
     }
-    all
 }
 
 // The table of the first n records, with a fourth byte, of a file that reaches their end and has cores that have room in a table.
@@ -51,13 +49,15 @@ pub fn table(file: &[u8], fourth: u8, n: u8) -> Table
     ensures { result ≡ first_tasks file.now fourth n }
 {
     let header = Header::of(file);
-    Table {
+    let mut table = Table {
         cores: header.cores,
         partitions: header.partitions,
         tasks: n,
         fourth,
         timing: fields::row_in(file),
         sets: fields::sets_in(file),
-        task: tasks(file, usize::from(n)),
-    }
+        task: [tasks::no_task(); 32],
+    };
+    put_tasks(file, usize::from(n), &mut table.task);
+    table
 }

@@ -21,9 +21,9 @@ fn put_figures(out: &mut [u8], at: usize, figures: &[u16])
 }
 
 // The first four bytes (RULES 7.1).
-fn put_counts(out: &mut [u8], t: Table)
+fn put_counts(out: &mut [u8], t: &Table)
     requires { 4 ≤ length out.old }
-    ensures { out.new ≡ sets out.old 0 (counts t) }
+    ensures { out.new ≡ sets out.old 0 (counts t.now) }
 {
     out[0] = t.cores;
     out[1] = t.partitions;
@@ -32,11 +32,11 @@ fn put_counts(out: &mut [u8], t: Table)
 }
 
 // What stands before the trailer.
-pub fn put_body(out: &mut [u8], t: Table)
-    requires cores_bound { t.cores ≤ 8 }
-    requires tasks_bound { t.tasks ≤ 32 }
-    requires tasks_in_bounds { record_at t.fourth t.cores (t.tasks + 1) ≤ length out.old }
-    ensures { out.new ≡ sets out.old 0 (body t) }
+pub fn put_body(out: &mut [u8], t: &Table)
+    requires cores_bound { t.now.cores ≤ 8 }
+    requires tasks_bound { t.now.tasks ≤ 32 }
+    requires tasks_in_bounds { record_at t.now.fourth t.now.cores (t.now.tasks + 1) ≤ length out.old }
+    ensures { out.new ≡ sets out.old 0 (body t.now) }
 {
     put_counts(out, t);
     put_figures(out, 4, &t.timing);
@@ -45,5 +45,5 @@ pub fn put_body(out: &mut [u8], t: Table)
         places::sets_at(t.fourth),
         &t.sets[..usize::from(t.cores)],
     );
-    records::put_tasks(out, t);
+    records::put_tasks(out, t.fourth, t.cores, &t.task[..usize::from(t.tasks)]);
 }

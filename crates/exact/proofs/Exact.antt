@@ -38,6 +38,7 @@ promises = record {
   whole = λ s. only_one _;
   check-file = λ s. only_one _;
   read = λ s. only_one _;
+  read-nothing = λ refusal. only_one _;
   view = λ s k. only_one _;
   view_refusal = λ s k. only_one _;
   write = λ t out a b p q. both (p.answered ∙ sym q.answered) (p.stored ∙ sym q.stored);

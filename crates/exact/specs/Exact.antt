@@ -13,10 +13,11 @@ use Rattle.rules.specs.Timing as Timing
 use Rattle.rules.specs.Timing.{Row}
 use Rattle.rules.specs.Refusals.{check_timing, check_bus, board_refusal, check_board, check_tasks, check_table, check_judged, check_start}
 use Rattle.rules.specs.File.{check_whole}
-use Rattle.rules.specs.Operations.{check_file, reading, check_to_judge, read_to_judge, check_view, viewing, judge_one, judge_all}
+use Rattle.rules.specs.Operations.{check_file, read_nothing, reading, check_to_judge, read_to_judge, check_view, viewing, judge_one, judge_all}
 use Rattle.rules.specs.Salvage.{salvaging, salvaged_out}
 use Rattle.rules.specs.Listing.{refused_line, table_text, listing, receipt, report}
-use Rattle.rules.specs.Results.{Salvaged, counts_of}
+use Rattle.rules.specs.Results.{Read, Salvaged, counts_of}
+use Rattle.changes.specs.declared.Figure.{Figure}
 use Rattle.changes.specs.declared.Change.{Change}
 use Rattle.changes.specs.Difference as Difference
 use Rattle.starts.specs.Starts.{in_picos}
@@ -47,6 +48,7 @@ pub record Promises : Type 0 where
   pub whole : (s : List ℕ) → Exact (λ (r : Checked). r ≡ granted (check_whole s) tt)
   pub check-file : (s : List ℕ) → Exact (λ (r : Checked). r ≡ granted (check_file s) tt)
   pub read : (s : List ℕ) → Exact (λ (r : Result Table Refusal). r ≡ granted (reading s).refusal (reading s).table)
+  pub read-nothing : (refusal : Refusal) → Exact (λ (r : Read). r ≡ read_nothing refusal)
   pub view : (s : List ℕ) (k : ℕ) → Exact (λ (part : List ℕ). part ≡ viewing s k)
   pub view_refusal : (s : List ℕ) (k : ℕ) → Exact (λ (r : Checked). r ≡ granted (check_view s k) tt)
   pub write : (t : Table) (out : List ℕ) → Exact (λ (r : Result ℕ Refusal × List ℕ). Wrote t out r.0 r.1)
@@ -69,7 +71,7 @@ pub record Promises : Type 0 where
   pub check : (t : Table) → Exact (λ (r : Checked). r ≡ granted (check_table t) tt)
   -- order
   pub worsens : (older newer : Table) → Exact (λ (r : Bool). r ≡ Order.worsens older newer)
-  pub difference : (older newer : Table) → Exact (λ (r : Option Change). r ≡ Difference.difference older newer)
+  pub difference : (older newer : Table) → Exact (λ (r : Option (Change Figure)). r ≡ Difference.difference older newer)
   -- admit
   pub admit_table : (t : Table) → Exact (λ (r : Checked). r ≡ granted (check_judged t) tt)
   pub admit_start : (t : Table) (k : ℕ) (start : Picos) → Exact (λ (r : Checked). r ≡ granted (check_start t k start.0) tt)

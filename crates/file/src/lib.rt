@@ -20,7 +20,7 @@ fn records_in(file: &[u8]) -> Result<(), Refusal>
     ensures { result ≡ granted (check_tasks (decode file.now)) tt }
 {
     let header = Header::of(file);
-    tasks::check_each(header.cores, header.tasks, |k| {
+    task_walk::check_each(header.cores, header.tasks, |k| {
         fields::task_at(file, usize::from(k) - 1)
     })
 }

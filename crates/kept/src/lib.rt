@@ -3,17 +3,9 @@
 
 ghost use Rattle.std.specs.Prelude.{◌≡◌, ◌+◌, ◌≤◌, length};
 ghost use Rattle.rules.specs.File.{records_at, cores_in, form_in};
-ghost use Rattle.rules.specs.Salvage.{task_fault, is_sound, kept};
+ghost use Rattle.rules.specs.Salvage.{is_sound, kept};
 
 use places::Header;
-use rules::Task;
-
-// Do 9 to 11 find a fault in a task?
-fn task_fault(cores: u8, x: Task) -> bool
-    ensures { result ≡ task_fault cores x }
-{
-    tasks::check_each(cores, 1, |_| x).is_err()
-}
 
 // Is the record in place i whole, and its task without a fault?
 fn is_sound(file: &[u8], i: usize) -> bool
@@ -23,7 +15,7 @@ fn is_sound(file: &[u8], i: usize) -> bool
 {
     let header = Header::of(file);
     let end = places::record_at(header.form, header.cores, i) + places::record_size(header.form);
-    end <= file.len() && !task_fault(header.cores, fields::record_task(file, i))
+    end <= file.len() && !task_walk::task_fault(header.cores, fields::record_task(file, i))
 }
 
 // How many are kept, of a file that reaches the end of its sets.

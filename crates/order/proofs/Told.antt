@@ -20,13 +20,13 @@ fine_none : (fine : Bool) (what : Figure) (place was is : ℕ) → is_none (unle
 fine_none true what place was is = refl
 fine_none false what place was is = refl
 
-both-none : (a b : Option Change) → is_none (a or_else b) ≡ is_none a && is_none b
+both-none : (a b : Option (Change Figure)) → is_none (a or_else b) ≡ is_none a && is_none b
 unfolding ◌or_else◌
 both-none None b = refl
 both-none (Some x) b = refl
 
 -- many places
-module _ (d : ℕ → Option Change) (fine : ℕ → Bool) (each : (k : ℕ) → is_none (d k) ≡ fine k) where
+module _ (d : ℕ → Option (Change Figure)) (fine : ℕ → Bool) (each : (k : ℕ) → is_none (d k) ≡ fine k) where
   from-none : (k n : ℕ) → is_none (first_from d k n) ≡ every fine (from k n)
   unfolding first_from from
   from-none k zero = refl

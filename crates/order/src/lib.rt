@@ -11,8 +11,8 @@ use rules::Table;
 use tasks::task_of;
 
 // The counts and the fourth byte.
-fn counts_difference(older: Table, newer: Table) -> Option<Change>
-    ensures { result ≡ counts_difference older newer }
+fn counts_difference(older: &Table, newer: &Table) -> Option<Change<Figure>>
+    ensures { result ≡ counts_difference older.now newer.now }
 {
     unequal(Figure::Cores, 0, older.cores as u64, newer.cores as u64)
         .or_else(|| unequal(
@@ -26,8 +26,8 @@ fn counts_difference(older: Table, newer: Table) -> Option<Change>
 }
 
 // The counts, the timing figures and the used sets.
-fn board_difference(older: Table, newer: Table) -> Option<Change>
-    ensures { result ≡ board_difference older newer }
+fn board_difference(older: &Table, newer: &Table) -> Option<Change<Figure>>
+    ensures { result ≡ board_difference older.now newer.now }
 {
     counts_difference(older, newer)
         .or_else(|| unlike(Figure::Timing, 15, &older.timing, &newer.timing))
@@ -35,20 +35,20 @@ fn board_difference(older: Table, newer: Table) -> Option<Change>
 }
 
 // The first task at fault.
-fn tasks_difference(older: Table, newer: Table) -> Option<Change>
-    ensures { result ≡ tasks_difference older newer }
+fn tasks_difference(older: &Table, newer: &Table) -> Option<Change<Figure>>
+    ensures { result ≡ tasks_difference older.now newer.now }
 {
     changes::first_of(
-        older.tasks,
-        |k| changes::task_difference(k, task_of(&older, k), task_of(&newer, k)),
+        changes::last_place(older.tasks, &older.task, &newer.task),
+        |k| changes::task_difference(k, task_of(older, k), task_of(newer, k)),
     )
 }
 
 // The first figure that keeps the newer table from being the older one worsened.
-pub fn difference(older: Table, newer: Table) -> Option<Change>
+pub fn difference(older: Table, newer: Table) -> Option<Change<Figure>>
     ensures { result ≡ Difference.difference older newer }
 {
-    board_difference(older, newer).or_else(|| tasks_difference(older, newer))
+    board_difference(&older, &newer).or_else(|| tasks_difference(&older, &newer))
 }
 
 // Are the two alike but that the newer may raise execution times and request counts and shorten periods? Then nothing is at fault.

@@ -4,10 +4,9 @@
 ghost use Rattle.std.specs.Prelude.{◌≡◌, ◌+◌, ◌≤◌, map, length};
 ghost use Rattle.std.proofs.lemmas.List.Edits.{sets};
 ghost use Rattle.laws.specs.Idioms.{joined};
-ghost use Rattle.rules.specs.Tasks.{tasks_of};
 ghost use Rattle.rules.specs.File.{records_at, record_at, record_bytes};
 
-use rules::{Table, Task};
+use rules::Task;
 
 // The record of a task (RULES 7.1).
 fn put_task(out: &mut [u8], at: usize, form: u8, task: Task)
@@ -21,18 +20,13 @@ fn put_task(out: &mut [u8], at: usize, form: u8, task: Task)
     lent_bytes::put(out, at + 25, task.requests as u64, 4);
 }
 
-// The records of the tasks, and of no place beyond them (RULES 2.7).
-pub fn put_tasks(out: &mut [u8], t: Table)
-    requires tasks_bound { t.tasks ≤ 32 }
-    requires tasks_in_bounds { record_at t.fourth t.cores (t.tasks + 1) ≤ length out.old }
-    ensures { out.new ≡ sets out.old (records_at t.fourth t.cores) (joined (map (record_bytes t.fourth) (tasks_of t))) }
+// The records of some tasks, from the first record's place on.
+pub fn put_tasks(out: &mut [u8], form: u8, cores: u8, tasks: &[Task])
+    requires few { length tasks.now ≤ 32 }
+    requires in_bounds { record_at form cores (length tasks.now + 1) ≤ length out.old }
+    ensures { out.new ≡ sets out.old (records_at form cores) (joined (map (record_bytes form) tasks.now)) }
 {
-    for i in 0..usize::from(t.tasks) {
-        put_task(
-            out,
-            places::record_at(t.fourth, t.cores, i),
-            t.fourth,
-            t.task[i],
-        );
+    for i in 0..tasks.len() {
+        put_task(out, places::record_at(form, cores, i), form, tasks[i]);
     }
 }

@@ -27,7 +27,8 @@ pub fn late(n: usize, latest: &[u64; 32], starts: &[u64; 32]) -> Result<(), Refu
     refuse_first(13, n as u8, |k| is_late(k, latest, starts))
 }
 
-fn missed() -> Answer
+// A miss in no round.
+pub fn missed() -> Answer
     ensures { result ≡ misses 0 }
 {
     Answer {

@@ -13,10 +13,10 @@ use seal::put_trailer;
 pub fn write(t: Table, out: &mut [u8]) -> Result<usize, Refusal>
     ensures { Wrote t out.old result out.new }
 {
-    checks::check(t)?;
+    checks::check_lent(&t)?;
     let n = places::file_length(t.fourth, t.cores, t.tasks);
     refuse_if(out.len() < n, 15, 0)?;
-    put_body(out, t);
+    put_body(out, &t);
     put_trailer(out, n - 12);
     Ok(n)
 }

@@ -1,38 +1,34 @@
--- The table that reading gives, where it may be judged. Assumes nothing.
+-- The refusal, then the table. Assumes nothing.
 use mathlib.Core.Path.{◌≡◌, sym, ◌∙◌}
-use mathlib.Core.List.{List}
-use Prim.Native.Nat.{ℕ}
-use Rattle.std.specs.Prelude.{Ok}
-use Rattle.rules.specs.declared.Table.{Table}
-use Rattle.rules.specs.Kinds.{says_salvaged}
-use Rattle.rules.specs.Chain.{granted}
-use Rattle.rules.specs.File.{form_in, decode}
-use Rattle.rules.specs.Operations.{reading, check_to_judge}
-use Rattle.facts.proofs.Chain.{returned, denied-alike, stops_at, goes_on_to, was-allowed, allowed}
-use Rattle.facts.proofs.Reading.{read_is}
-use Rattle.facts.proofs.ToJudge.{read-to_judge_is}
+use mathlib.Core.Bool.{true}
+use native.Mathlib.Omega.{arith}
+use Rattle.rules.specs.Chain.{is_accepted}
+use Rattle.rules.specs.File.{decode}
+use Rattle.rules.specs.Operations.{check_file, check_to_judge}
+use Rattle.facts.proofs.Chain.{returned, denied-alike, allowed, was-allowed}
+use Rattle.facts.proofs.ToJudge.{judged_file, read-to_judge_is}
+use Rattle.fields.proofs.Steps.{records-end}
+use Rattle.file.proofs.Reading.{file_sized, file_counts}
+use Rattle.admit_file.proofs.read.Goals.{In_ok-check}
 use Rattle.admit_file.proofs.read.Goals as goal
 
--- the table that was read has the file's fourth byte
-same-fourth : (s : List ℕ) {t : Table} → Ok t ≡ granted (reading s).refusal (reading s).table → says_salvaged t.fourth ≡ says_salvaged (form_in s)
-unfolding decode
-same-fourth s e = rw (← (was-allowed _ _ (sym (e ∙ read_is s))).1)
+pub returns-in_err-check : goal.returns-in_err-check
+returns-in_err-check c = returned _ c.from_residual.ensures.1 ∙ denied-alike _ _ _ c.in_err-check.ensures ∙ sym (read-to_judge_is _)
 
-pub returns-in_err-table : goal.returns-in_err-table
-unfolding check_to_judge
-returns-in_err-table c = stops_at _ _ _ _ c.from_residual.ensures.1 (c.in_err-table.ensures ∙ read_is _) ∙ sym (read-to_judge_is _)
+passed : (c : In_ok-check) → is_accepted (check_to_judge c.args.file.now) ≡ true
+passed c = (was-allowed _ _ (sym c.in_ok-check.ensures)).0
 
-pub returns-in_err-refuse_if : goal.returns-in_err-refuse_if
-unfolding check_to_judge
-returns-in_err-refuse_if c =
-    let read = c.in_ok-table.ensures in
-    let link = rw (c.says_salvaged.ensures, same-fourth _ read) at c.in_err-refuse_if.ensures in
-    goes_on_to _ _ _ _ (read ∙ read_is _) (returned _ c.from_residual-in_err-refuse_if.ensures.1 ∙ denied-alike _ _ _ link) ∙ sym (read-to_judge_is _)
+came : (c : In_ok-check) → is_accepted (check_file c.args.file.now) ≡ true
+came c = judged_file _ (passed c)
+
+pub of-header-requires : goal.of-header-requires
+of-header-requires c = omega (arith, (file_sized _ (came (goal.at.of-header-requires c).In_ok-check)).long)
+
+pub table-requires : goal.table-requires
+table-requires c =
+    let e = came (goal.at.table-requires c).In_ok-check in
+    rw c.of-header.ensures (record { file_bound = file_counts _ e; n_in_bounds = records-end c.args.file.now (file_sized _ e) })
 
 pub returns : goal.returns
-unfolding check_to_judge
-returns c =
-    let read = c.in_ok-table.ensures in
-    let link = rw (c.says_salvaged.ensures, same-fourth _ read) at c.in_ok-refuse_if.ensures in
-    let table = (was-allowed _ _ (sym (read ∙ read_is _))).1 in
-    goes_on_to _ _ _ _ (read ∙ read_is _) (rw table (sym (allowed _ _ (was-allowed _ _ (sym link)).0))) ∙ sym (read-to_judge_is _)
+unfolding decode
+returns c = rw (c.table.ensures, c.of-header.ensures) (sym (allowed _ _ (passed (goal.at.returns c).In_ok-check))) ∙ sym (read-to_judge_is _)

@@ -1,4 +1,5 @@
 -- The table of a file's first records, field by field. Assumes nothing.
+use mathlib.Core.Path.{refl}
 use mathlib.Core.List.{List}
 use Prim.Native.Nat.{ℕ, ◌+◌, ◌≤◌}
 use native.Mathlib.Omega.{arith}
@@ -21,8 +22,12 @@ row_in-requires c = long c.args.file.now c.args.n c.requires.n_in_bounds
 pub sets_in-requires : goal.sets_in-requires
 sets_in-requires c = record { file_bound = c.requires.file_bound.0; file_in_bounds = sets-there c.args.file.now c.args.n c.requires.n_in_bounds }
 
-pub tasks-requires : goal.tasks-requires
-tasks-requires c = record { n_bound = omega (arith, c.from.ensures, c.requires.file_bound.1); n_in_bounds = rw c.from.ensures c.requires.n_in_bounds }
+pub put_tasks-requires : goal.put_tasks-requires
+put_tasks-requires c = record {
+  n_bound = omega (arith, c.from.ensures, c.requires.file_bound.1);
+  n_in_bounds = rw c.from.ensures c.requires.n_in_bounds;
+  none = rw c.no_task.ensures refl;
+}
 
 pub returns : goal.returns
-returns c = rw (c.of-header.ensures, c.row_in.ensures, c.sets_in.ensures, c.tasks.ensures, c.from.ensures)
+returns c = rw (c.of-header.ensures, c.row_in.ensures, c.sets_in.ensures, c.put_tasks.ensures, c.from.ensures)

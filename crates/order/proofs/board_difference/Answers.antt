@@ -8,8 +8,8 @@ use Rattle.order.proofs.board_difference.Goals as goal
 pub returns : goal.returns
 unfolding board_difference
 returns c =
-    let a = c.args.older in
-    let b = c.args.newer in
+    let a = c.args.older.now in
+    let b = c.args.newer.now in
     rw (
       either c.or_else.result (unlike Set a.cores a.sets b.sets) c.or_else-2.ensures (λ post. search rules),
       either c.counts_difference.result (unlike Timing 15 a.timing b.timing) c.or_else.ensures (λ post. search rules),

@@ -8,8 +8,8 @@ use Rattle.order.proofs.counts_difference.Goals as goal
 pub returns : goal.returns
 unfolding counts_difference
 returns c =
-    let a = c.args.older in
-    let b = c.args.newer in
+    let a = c.args.older.now in
+    let b = c.args.newer.now in
     rw (
       either c.or_else-2.result (unequal Fourth 0 a.fourth b.fourth) c.or_else-3.ensures (λ post. search rules),
       either c.or_else.result (unequal Tasks 0 a.tasks b.tasks) c.or_else-2.ensures (λ post. search rules),

@@ -1,5 +1,5 @@
 -- `store` meets its contract. Assumes nothing.
-use mathlib.Core.Path.{◌≡◌, sym, ◌∙◌}
+use mathlib.Core.Path.{◌≡◌, refl, sym, ◌∙◌}
 use borrow.Author.Rules.{rules}
 use lib.ListN.{length, take}
 use lib.Seq.{length-take-le}
@@ -24,3 +24,9 @@ returns-clause-value c = λ r is.
 
 pub returns-clause-stored : goal.returns-clause-stored
 returns-clause-stored c = λ r is. rw (was-allowed _ _ (sym is ∙ c.in_ok-answers.was)).1 c.store_answers.ensures.stored
+
+pub returns-in_err-answers-clause-unchanged : goal.returns-in_err-answers-clause-unchanged
+returns-in_err-answers-clause-unchanged c = rw c.in_err-answers.was (returned _ c.from_residual.ensures.1, refl, refl, refl)
+
+pub returns-clause-unchanged : goal.returns-clause-unchanged
+returns-clause-unchanged c = rw c.in_ok-answers.was tt

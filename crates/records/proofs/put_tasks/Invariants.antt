@@ -8,4 +8,4 @@ use Rattle.laws.specs.Idioms.{joined}
 use Rattle.records.proofs.put_tasks.Given as goal
 
 abbrev pub invariant-loop-i : goal.invariant-loop-i
-invariant-loop-i l = (length l.out ≡ length l.initial.out) × (l.out ≡ sets l.initial.out (records_at l.t.fourth l.t.cores) (joined (map (record_bytes l.t.fourth) (take l.i l.t.task))))
+invariant-loop-i l = (length l.out ≡ length l.initial.out) × (l.out ≡ sets l.initial.out (records_at l.form l.cores) (joined (map (record_bytes l.form) (take l.i l.tasks))))

@@ -19,13 +19,13 @@ use Rattle.writer.proofs.Writing.{file_small, encode-length, refuses_all, writes
 use Rattle.writer.proofs.write.Goals.{After-file_length-n, In_ok-refuse_if}
 use Rattle.writer.proofs.write.Goals as goal
 
-pub returns-in_err-check : goal.returns-in_err-check
+pub returns-in_err-check_lent : goal.returns-in_err-check_lent
 unfolding check_write
-returns-in_err-check c = let h = c.from_residual.ensures.1 in refuses_all _ _ (returned _ h) (stops_at _ _ _ _ h c.in_err-check.ensures)
+returns-in_err-check_lent c = let h = c.from_residual.ensures.1 in refuses_all _ _ (returned _ h) (stops_at _ _ _ _ h c.in_err-check_lent.ensures)
 
 -- 5 to 11 were passed
 passed : (c : After-file_length-n) → is_accepted (check_table c.args.t) ≡ true
-passed c = (was-allowed _ _ (sym c.in_ok-check.ensures)).0
+passed c = (was-allowed _ _ (sym c.in_ok-check_lent.ensures)).0
 
 -- the length that was worked out is the file's
 lengths : (c : After-file_length-n) → let t = c.args.t in
@@ -41,7 +41,7 @@ unfolding check_write
 returns-in_err-refuse_if c =
     let h = c.from_residual-in_err-refuse_if.ensures.1 in
     let link = rw (lengths (goal.at.returns-in_err-refuse_if c).After-file_length-n).1 at c.in_err-refuse_if.ensures in
-    refuses_all _ _ (returned _ h) (goes_on_to _ _ _ _ c.in_ok-check.ensures (returned _ h ∙ denied-alike _ _ _ link))
+    refuses_all _ _ (returned _ h) (goes_on_to _ _ _ _ c.in_ok-check_lent.ensures (returned _ h ∙ denied-alike _ _ _ link))
 
 -- and so was 15
 room : (c : In_ok-refuse_if) → c.file_length-n.result ≤ length c.args.out.now
@@ -73,4 +73,4 @@ returns c =
     let h : length (encode a.t) ≤ length a.out.now = omega (arith, long) in
     let few : length (encode a.t) ≤ 990 = omega (arith, long, c.file_length-n.ensures.value, file_small a.t.fourth a.t.cores a.t.tasks fits.cores-in.high fits.tasks-in.high) in
     rw (c.put_trailer.ensures, e, c.put_body.ensures, file_stores a.t a.out.now h)
-    (writes_all _ _ (goes_on_to _ _ _ _ c.in_ok-check.ensures (rw long.1 (faultless 15 0 _ (rw long.1 at (was-faultless 15 0 _ (tt {0}) (omega arith) c.in_ok-refuse_if.ensures))))) few)
+    (writes_all _ _ (goes_on_to _ _ _ _ c.in_ok-check_lent.ensures (rw long.1 (faultless 15 0 _ (rw long.1 at (was-faultless 15 0 _ (tt {0}) (omega arith) c.in_ok-refuse_if.ensures))))) few)
