@@ -48,6 +48,7 @@ pub record Promises : Type 0 where
   pub whole : (s : List ℕ) → Exact (λ (r : Checked). r ≡ granted (check_whole s) tt)
   pub check-file : (s : List ℕ) → Exact (λ (r : Checked). r ≡ granted (check_file s) tt)
   pub read : (s : List ℕ) → Exact (λ (r : Result Table Refusal). r ≡ granted (reading s).refusal (reading s).table)
+  -- what a refused reading gives by the rules; in code it is an `Err`
   pub read-nothing : (refusal : Refusal) → Exact (λ (r : Read). r ≡ read_nothing refusal)
   pub view : (s : List ℕ) (k : ℕ) → Exact (λ (part : List ℕ). part ≡ viewing s k)
   pub view_refusal : (s : List ℕ) (k : ℕ) → Exact (λ (r : Checked). r ≡ granted (check_view s k) tt)
